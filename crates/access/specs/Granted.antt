@@ -1,0 +1,51 @@
+-- "Granted: asked bits left by normal evaluation, confinement and every rule's result". What the evaluation finds does not depend on the desired
+-- mask: the masks left and the bits on which staging differs are found for the kind, and the mask enters at the end.
+use Prim.Native.Nat.{ℕ}
+use mathlib.Core.List.{List}
+use mathlib.Core.Bool.{Bool, true, false, cond, not, _&&_, _||_}
+use lib.Dec.{eqb}
+use Rattle.base.specs.Bits.{and, or, has, covers}
+use Rattle.tokens.specs.Token.{Token}
+use Rattle.tokens.specs.Crowd.{crowdOf}
+use Rattle.passes.specs.KindsAndMasks.{explicit, asked, maximum}
+use Rattle.passes.specs.Matching.{hitsOf}
+use Rattle.passes.specs.NormalEvaluation.{Dacl, normalOf}
+use Rattle.passes.specs.Confinement.{confinementOf}
+use Rattle.policy.specs.Rules.{Lists, ruledBy}
+use Rattle.access.specs.declared.answer.Found.{Found}
+use Rattle.access.specs.declared.answer.Answer.{Answer}
+
+-- ---- found for the kind
+
+-- the bits after normal evaluation, after confinement, after policy, and those on which effective and staged results differ
+unfoldable pub foundOf : ℕ → Token → List ℕ → List ℕ → Dacl → List Lists → Found
+foundOf kind t owner self d rules =
+    let h = hitsOf (crowdOf t) owner self in
+    let n = normalOf kind (crowdOf t) h (t .privileges) d in
+    let c = and n (confinementOf kind t owner self d) in
+    let r = ruledBy kind (crowdOf t) h (t .privileges) rules in
+    record {
+      normal = record { 0 = n };
+      confined = record { 0 = c };
+      ruled = record { 0 = and c (r .left .0) };
+      differ = r .differ;
+    }
+
+-- ---- read off for a mask
+
+-- "Granted: asked bits left"; "no granted bit lies outside the bits asked"
+abbrev pub grantedOf : ℕ → ℕ → Found → ℕ
+grantedOf kind mask f = and (asked kind mask) (f .ruled .0)
+
+-- "Allowed: every explicit bit is granted, and the granted mask is not 0 if 0x02000000 was asked."
+abbrev pub allowedOf : ℕ → ℕ → ℕ → Bool
+allowedOf kind mask granted = covers granted (explicit kind mask) && (not (has mask maximum) || not (eqb granted 0))
+
+-- "Staging flag: some rule with a staged DACL whose effective and staged results differ on asked bits."
+abbrev pub stagedOf : ℕ → ℕ → Found → Bool
+stagedOf kind mask f = has (asked kind mask) (f .differ .0)
+
+unfoldable pub answerOf : ℕ → ℕ → Found → Answer
+answerOf kind mask f =
+    let g = grantedOf kind mask f in
+    record { status = 0; granted = record { 0 = g }; allowed = allowedOf kind mask g; staged = stagedOf kind mask f }

@@ -1,0 +1,11 @@
+-- The question and its answer, in the page's order.
+-- the masks that are left, and what is granted, allowed and staged
+pub mod Granted
+-- status numbers, in order of checking
+pub mod Status
+-- the question file
+pub mod QuestionFile
+-- the bench cards as bytes
+pub mod Cards
+-- demand 3's words: strangers
+pub mod Strangers

@@ -1,0 +1,33 @@
+-- "The program reads one question file: kind, mask, then token, self, descriptor, policy, each with a length before it, all numbers 32 bits in
+-- sevens, nothing after." 12: "question file misshapen or above 65,536 bytes"; 12 comes first of all.
+use Prim.Native.Nat.{ℕ, _+_}
+use mathlib.Core.List.{List}
+use mathlib.Core.Bool.{Bool, cond}
+use lib.ListN.{length}
+use lib.Dec.{ltb, leb, eqb}
+use Rattle.base.specs.Bytes.{Read, bind, only, part}
+use Rattle.base.specs.Bytes.Read.{none, some}
+use Rattle.base.specs.Sevens.{number}
+use Rattle.access.specs.Status.{Question, checked, refused}
+use Rattle.access.specs.declared.answer.Answer.{Answer}
+
+-- a length and so many bytes
+unfoldable pub blobAt : List ℕ → ℕ → Read (List ℕ)
+blobAt s at = bind (number 32 s at) (λ n a. only (leb (a + n) (length s)) (some (part s a (a + n)) (a + n)))
+
+unfoldable pub questionOf : List ℕ → Read Question
+questionOf s =
+    bind (number 32 s 0) (λ kind a.
+    bind (number 32 s a) (λ mask b.
+    bind (blobAt s b) (λ token c.
+    bind (blobAt s c) (λ self d.
+    bind (blobAt s d) (λ descriptor e.
+    bind (blobAt s e) (λ policy f. only (eqb f (length s))
+    (some (record { kind = kind; mask = mask; token = token; self = self; descriptor = descriptor; policy = policy }) f)))))))
+
+abbrev pub answering : Read Question → Answer
+answering none = refused 12
+answering (some q end) = checked q
+
+unfoldable pub fileAnswer : List ℕ → Answer
+fileAnswer s = let r = answering (questionOf s) in cond (ltb 65536 (length s)) (refused 12) r

@@ -1,0 +1,76 @@
+-- "Status numbers, in order of checking": the lowest number that applies is given; shape is judged over a whole part before its later numbers.
+use Prim.Native.Nat.{ℕ}
+use mathlib.Core.List.{List}
+use mathlib.Core.Bool.{Bool, true, false, cond, not}
+use lib.ListN.{length}
+use lib.Dec.{eqb}
+use Rattle.base.specs.Bytes.{Read}
+use Rattle.base.specs.Bytes.Read.{none, some}
+use Rattle.lists.specs.Sid.{isSid}
+use Rattle.lists.specs.Acl.{entriesOf}
+use Rattle.lists.specs.Descriptor as descriptor
+use Rattle.lists.specs.Descriptor.{partsOf, ownerOf, daclOf}
+use Rattle.tokens.specs.Token.{Token}
+use Rattle.tokens.specs.TokenRecord.{readRecord}
+use Rattle.tokens.specs.TokenRules.{keeps}
+use Rattle.passes.specs.KindsAndMasks.{knownKind, legal}
+use Rattle.passes.specs.NormalEvaluation.{Dacl}
+use Rattle.policy.specs.Policy as policy
+use Rattle.policy.specs.Policy.{standingOf}
+use Rattle.policy.specs.Rules.{rulesOf}
+use Rattle.access.specs.Granted.{foundOf, answerOf}
+use Rattle.access.specs.declared.answer.Answer.{Answer}
+use Rattle.access.specs.declared.answer.Found.{Found}
+
+-- "A question has an object kind, a desired mask, a token record, a self identity (may be empty), a self-relative descriptor and one policy (may be
+-- empty)."
+pub record Question : Type 0 where
+  pub kind : ℕ
+  pub mask : ℕ
+  pub token : List ℕ
+  pub self : List ℕ
+  pub descriptor : List ℕ
+  pub policy : List ℕ
+
+-- "On refusal mask 0, allowed no, flag clear"
+abbrev pub refused : ℕ → Answer
+refused n = record { status = n; granted = record { 0 = 0 }; allowed = false; staged = false }
+
+-- 5: "self identity neither empty nor exactly one SID"
+unfoldable pub selfFits : List ℕ → Bool
+selfFits w = cond (eqb (length w) 0) true (isSid w)
+
+-- the access list that an accepted descriptor has
+abbrev pub daclIn : List ℕ → Dacl
+daclIn d = record { present = not (partsOf d .null); entries = entriesOf (daclOf d) }
+
+-- 6, 7, 8 of the descriptor; 9, 10 of the policy
+abbrev pub descriptorNumber : List ℕ → ℕ
+descriptorNumber d = descriptor.numberOf (partsOf d .verdict)
+
+abbrev pub policyNumber : List ℕ → ℕ
+policyNumber p = policy.numberOf (standingOf p)
+
+-- what is found for an accepted question, whatever its mask
+abbrev pub findings : ℕ → Token → List ℕ → List ℕ → List ℕ → Found
+findings kind t self d p = foundOf kind t (ownerOf d) self (daclIn d) (rulesOf p)
+
+-- from 5 on, for a token
+unfoldable pub afterToken : Question → Token → Answer
+afterToken q t =
+    cond (selfFits (q .self))
+    (cond (eqb (descriptorNumber (q .descriptor)) 0)
+    (cond (eqb (policyNumber (q .policy)) 0)
+    (answerOf (q .kind) (q .mask) (findings (q .kind) t (q .self) (q .descriptor) (q .policy)))
+    (refused (policyNumber (q .policy))))
+    (refused (descriptorNumber (q .descriptor))))
+    (refused 5)
+
+-- 3: "token record misshapen"; 4: "token breaks a token rule"
+abbrev pub withToken : Question → Read Token → Answer
+withToken q none = refused 3
+withToken q (some t end) = cond (keeps t) (afterToken q t) (refused 4)
+
+-- 1: "kind is not 1 or 2"; 2: the mask has a foreign bit
+unfoldable pub checked : Question → Answer
+checked q = cond (knownKind (q .kind)) (cond (legal (q .kind) (q .mask)) (withToken q (readRecord (q .token))) (refused 2)) (refused 1)

@@ -1,0 +1,5 @@
+// The check.
+mod answer;
+
+pub use answer::Answer;
+pub use answer::Found;

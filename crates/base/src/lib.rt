@@ -1,0 +1,13 @@
+// Bytes by place and numbers in sevens, read from lent bytes. Knows nothing of identities, lists
+// or tokens.
+mod bytes;
+mod sevens;
+
+pub use bytes::same;
+pub use bytes::u16_at;
+pub use bytes::u32_at;
+pub use bytes::wide;
+pub use sevens::Num;
+pub use sevens::number32;
+pub use sevens::number48;
+pub use sevens::number64;

@@ -1,0 +1,111 @@
+-- "ACL: revision 2 or 4, a byte, size u16, count u16, two bytes. Size is at least 8 and fits. The entries follow back to back."
+use Prim.Native.Nat.{ℕ, zero, suc, _+_, _*_, _%_}
+use mathlib.Core.List.{List, [], _∷_}
+use mathlib.Core.Bool.{Bool, true, false, cond, _&&_, _||_}
+use lib.ListN.{length}
+use lib.Dec.{ltb, leb, eqb}
+use Rattle.base.specs.Bytes.{byteAt, u16At, u32At, part}
+use Rattle.lists.specs.Sid.{sidEnd}
+use Rattle.lists.specs.declared.acl.Ace.{Ace}
+use Rattle.lists.specs.declared.acl.Scan.{Scan}
+use Rattle.lists.specs.declared.acl.Scan.the-variants.{Broken, Foreign, Plain}
+
+-- ---- the list
+
+-- the place after the ACL whose heading stands at a place; 0 where the heading is misshapen or the size does not fit
+unfoldable pub aclEnd : List ℕ → ℕ → ℕ
+aclEnd s at =
+    let n = u16At s (at + 2) in
+    cond (ltb (length s) (at + 8)) 0
+    (cond (eqb (byteAt s at) 2 || eqb (byteAt s at) 4)
+    (cond (ltb n 8) 0
+    (cond (ltb (length s) (at + n)) 0 (at + n)))
+    0)
+
+-- ---- an entry, at a place of its list's own bytes
+
+-- "type, flags, size u16 (a multiple of 4, at least 4, inside the ACL)": the place after the entry; 0 where it is misshapen
+unfoldable pub headEnd : List ℕ → ℕ → ℕ
+headEnd l at =
+    let n = u16At l (at + 2) in
+    cond (ltb (length l) (at + 4)) 0
+    (cond (eqb (n % 4) 0)
+    (cond (ltb n 4) 0
+    (cond (ltb (length l) (at + n)) 0 (at + n)))
+    0)
+
+-- "Types 0 (allow) and 1 (deny) hold a u32 mask and one SID"
+abbrev pub named : ℕ → Bool
+named t = ltb t 2
+
+-- "and their size is exactly 8 plus the SID's": the entry ends where its SID does (request 101 changes this line alone)
+abbrev pub fitting : ℕ → ℕ → Bool
+fitting sid-end entry-end = eqb sid-end entry-end
+
+-- the entry from a place to its end holds a mask and one SID
+unfoldable pub holds : List ℕ → ℕ → ℕ → Bool
+holds l at e = let k = sidEnd l (at + 8) in cond (eqb k 0) false (fitting k e)
+
+-- "This last rule is of shape, and applies in DACLs; in SACLs only headers and sizes are read": deep is true in a DACL
+unfoldable pub entryEnd : Bool → List ℕ → ℕ → ℕ
+entryEnd deep l at = let e = headEnd l at in cond (deep && named (byteAt l at)) (cond (holds l at e) e 0) e
+
+-- ---- all entries
+
+-- n entries stand back to back from a place
+unfoldable pub shaped : Bool → List ℕ → ℕ → ℕ → Bool
+shaped deep l zero at = true
+shaped deep l (suc n) at = let e = entryEnd deep l at in let r = shaped deep l n e in cond (eqb e 0) false r
+
+-- one of them has a type other than 0 or 1
+unfoldable pub foreign : Bool → List ℕ → ℕ → ℕ → Bool
+foreign deep l zero at = false
+foreign deep l (suc n) at = let r = foreign deep l n (entryEnd deep l at) in cond (named (byteAt l at)) r true
+
+-- what a list's own bytes hold: misshapen entries, a foreign type, or plain entries only
+abbrev pub scanned : Bool → Bool → Scan
+scanned whole alien = cond whole (cond alien Foreign Plain) Broken
+
+unfoldable pub scanOf : Bool → List ℕ → Scan
+scanOf deep l = scanned (shaped deep l (u16At l 4) 8) (foreign deep l (u16At l 4) 8)
+
+-- ---- what the entries of an accepted list say
+
+-- "Lists read the same if their entries agree in order in type, flags, mask and SID": so these are what an entry is
+pub record Entry : Type 0 where
+  pub kind : ℕ
+  pub flags : ℕ
+  pub mask : ℕ
+  pub sid : List ℕ
+
+-- the entry as the code reads it: where its SID stands, and the place after the entry; all 0 where no allow or deny entry stands
+abbrev pub noAce : Ace
+noAce = record { kind = 0; flags = 0; mask = record { 0 = 0 }; from = 0; to = 0; next = 0 }
+
+unfoldable pub aceAt : List ℕ → ℕ → Ace
+aceAt l at =
+    let e = entryEnd true l at in
+    let plain : Ace =
+    record {
+      kind = byteAt l at;
+      flags = byteAt l (at + 1);
+      mask = record { 0 = u32At l (at + 4) };
+      from = at + 8;
+      to = sidEnd l (at + 8);
+      next = e;
+    } in
+    cond (named (byteAt l at)) (cond (eqb e 0) noAce plain) noAce
+
+abbrev pub entryOf : List ℕ → Ace → Entry
+entryOf l a = record { kind = a .kind; flags = a .flags; mask = a .mask .0; sid = part l (a .from) (a .to) }
+
+-- the n entries from a place, in stored order
+unfoldable pub entriesAt : List ℕ → ℕ → ℕ → List Entry
+entriesAt l zero at = []
+entriesAt l (suc n) at =
+    let a = aceAt l at in
+    let r = entryOf l a ∷ entriesAt l n (a .next) in
+    cond (eqb (a .next) 0) [] r
+
+unfoldable pub entriesOf : List ℕ → List Entry
+entriesOf l = entriesAt l (u16At l 4) 8

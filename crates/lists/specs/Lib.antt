@@ -1,0 +1,7 @@
+-- "Identities, lists, descriptor (MS-DTYP, source 002)", in the page's order. Nothing here knows of tokens.
+-- SID; identities and their bytes
+pub mod Sid
+-- ACL; entries in DACLs and in SACLs
+pub mod Acl
+-- the self-relative descriptor, its parts and its numbers 6, 7 and 8
+pub mod Descriptor

@@ -1,0 +1,36 @@
+-- "A SID matches for allow if .. ; for deny .. . S-1-3-4 matches as the owner does, S-1-5-10 as the self identity does, each for allow and deny apart".
+-- Whom the token shows, with `allows` and `denies` of each, is a list of members (tokens: Crowd).
+use Prim.Native.Nat.{ℕ}
+use mathlib.Core.List.{List, [], _∷_}
+use mathlib.Core.Bool.{Bool, true, false, cond, _&&_}
+use lib.ListN.{length}
+use lib.Dec.{eqb}
+use Rattle.base.specs.Bytes.{same}
+use Rattle.lists.specs.Sid.{ownerRights, principalSelf}
+use Rattle.tokens.specs.Crowd.{Member}
+use Rattle.tokens.specs.TokenRules.{virtual}
+use Rattle.passes.specs.declared.matching.Hit.{Hit}
+use Rattle.passes.specs.declared.matching.Hits.{Hits}
+
+-- one of the members has the SID and matches. "A group listed twice matches if either listing does."
+unfoldable pub among : Bool → List Member → List ℕ → Bool
+among allow [] w = false
+among allow (m ∷ ms) w = let r = among allow ms w in cond (same (m .sid) w && cond allow (m .allows) (m .denies)) true r
+
+-- "an empty self matches nothing, nor does an owner or self that is one of these two"
+unfoldable pub stands : Bool → List Member → List ℕ → Bool
+stands allow ms w = cond (eqb (length w) 0) false (cond (virtual w) false (among allow ms w))
+
+-- how an identity stands in for a virtual one, for allow and for deny
+abbrev pub hitOf : List Member → List ℕ → Hit
+hitOf ms w = record { allow = stands true ms w; deny = stands false ms w }
+
+unfoldable pub hitsOf : List Member → List ℕ → List ℕ → Hits
+hitsOf ms owner self = record { owner = hitOf ms owner; me = hitOf ms self }
+
+abbrev pub side : Bool → Hit → Bool
+side allow h = cond allow (h .allow) (h .deny)
+
+-- a SID matches
+unfoldable pub matches : Bool → List Member → Hits → List ℕ → Bool
+matches allow ms h w = cond (same w ownerRights) (side allow (h .owner)) (cond (same w principalSelf) (side allow (h .me)) (among allow ms w))

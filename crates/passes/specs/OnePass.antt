@@ -1,0 +1,57 @@
+-- "Entries are taken in stored order, those with flag 0x08 skipped. Each bit is decided by the first matching entry that has it; an undecided bit
+-- is not granted. A tally of bits decided and bits allowed takes one entry and gives the next tally; every pass begins with the empty tally."
+use Prim.Native.Nat.{ℕ}
+use mathlib.Core.List.{List, [], _∷_}
+use mathlib.Core.Bool.{Bool, true, false, cond}
+use lib.Dec.{eqb}
+use Rattle.base.specs.Bits.{and, or, flip, has, bit}
+use Rattle.lists.specs.Acl.{Entry}
+use Rattle.tokens.specs.Crowd.{Member}
+use Rattle.passes.specs.KindsAndMasks.{entryMask}
+use Rattle.passes.specs.Matching.{matches}
+use Rattle.passes.specs.declared.matching.Hits.{Hits}
+use Rattle.passes.specs.declared.tally.Tally.{Tally}
+
+abbrev pub tally : ℕ → ℕ → Tally
+tally d a = record { decided = record { 0 = d }; allowed = record { 0 = a } }
+
+abbrev pub emptied : Tally
+emptied = tally 0 0
+
+-- an allow entry's bits are decided, and allowed where they were not decided before; a deny entry's are decided
+abbrev pub allowing : Tally → ℕ → Tally
+allowing t m = tally (or (t .decided .0) m) (or (t .allowed .0) (and m (flip (t .decided .0))))
+
+abbrev pub denying : Tally → ℕ → Tally
+denying t m = tally (or (t .decided .0) m) (t .allowed .0)
+
+-- flag 0x08, inherit only: the entry says nothing of the object itself
+abbrev pub skipped : Entry → Bool
+skipped e = has (e .flags) 0x08
+
+-- type 0 allows, type 1 denies
+abbrev pub allows : Entry → Bool
+allows e = eqb (e .kind) 0
+
+-- the tally after an entry
+unfoldable pub taken : ℕ → List Member → Hits → Tally → Entry → Tally
+taken kind ms h t e =
+    let m = entryMask kind (e .mask) in
+    cond (skipped e) t
+    (cond (matches (allows e) ms h (e .sid)) (cond (allows e) (allowing t m) (denying t m)) t)
+
+unfoldable pub run : ℕ → List Member → Hits → Tally → List Entry → Tally
+run kind ms h t [] = t
+run kind ms h t (e ∷ es) = run kind ms h (taken kind ms h t e) es
+
+-- what a pass allows
+abbrev pub passed : ℕ → List Member → Hits → List Entry → ℕ
+passed kind ms h es = run kind ms h emptied es .allowed .0
+
+-- the same, bit by bit, without a tally: "Each bit is decided by the first matching entry that has it; an undecided bit is not granted"
+unfoldable pub granted : ℕ → List Member → Hits → List Entry → ℕ → Bool
+granted kind ms h [] i = false
+granted kind ms h (e ∷ es) i =
+    let r = granted kind ms h es i in
+    cond (skipped e) r
+    (cond (matches (allows e) ms h (e .sid)) (cond (bit (entryMask kind (e .mask)) i) (allows e) r) r)

@@ -1,0 +1,63 @@
+-- "A rule's result is normal evaluation with its DACL for the descriptor's, same owner, without confinement. The SACL sections are checked for shape
+-- and otherwise unused." "Staging flag: some rule with a staged DACL whose effective and staged results differ on asked bits."
+use Prim.Native.Nat.{ℕ, zero, suc, _+_}
+use mathlib.Core.List.{List, [], _∷_}
+use mathlib.Core.Bool.{Bool, true, false, cond}
+use lib.ListN.{length}
+use lib.Dec.{ltb, eqb}
+use Rattle.base.specs.Bytes.{u32At}
+use Rattle.base.specs.Bits.{and, or, differ}
+use Rattle.lists.specs.Acl.{Entry, entriesOf}
+use Rattle.tokens.specs.Crowd.{Member}
+use Rattle.passes.specs.NormalEvaluation.{normalOf, listed}
+use Rattle.passes.specs.Confinement.{everything}
+use Rattle.passes.specs.declared.matching.Hits.{Hits}
+use Rattle.policy.specs.Policy.{bytesOf, ruleAt}
+use Rattle.policy.specs.declared.shape.Rule.{Rule}
+use Rattle.policy.specs.declared.rules.Ruled.{Ruled}
+
+-- what a rule says: its effective list, whether it has a staged one, and that
+pub record Lists : Type 0 where
+  pub effective : List Entry
+  pub stages : Bool
+  pub staged : List Entry
+
+abbrev pub listsOf : List ℕ → Rule → Lists
+listsOf s r =
+    record {
+      effective = entriesOf (bytesOf s (r .effective));
+      stages = ltb (r .staged .from) (r .staged .to);
+      staged = entriesOf (bytesOf s (r .staged));
+    }
+
+-- the n rules from a place; they stop at a misshapen one
+unfoldable pub rulesAt : List ℕ → ℕ → ℕ → List Lists
+rulesAt s zero at = []
+rulesAt s (suc n) at = let r = ruleAt s at in let q = listsOf s r ∷ rulesAt s n (r .next) in cond (eqb (r .next) 0) [] q
+
+-- "An empty policy means none."
+unfoldable pub rulesOf : List ℕ → List Lists
+rulesOf s = cond (eqb (length s) 0) [] (rulesAt s (u32At s 1) 5)
+
+-- a rule's effective result and its staged one
+abbrev pub resultOf : ℕ → List Member → Hits → ℕ → List Entry → ℕ
+resultOf kind ms h p es = normalOf kind ms h p (listed es)
+
+-- the bits left by the rules so far, and those on which effective and staged results differ so far
+abbrev pub ruled : ℕ → ℕ → Ruled
+ruled l d = record { left = record { 0 = l }; differ = record { 0 = d } }
+
+-- one rule more
+unfoldable pub judgedBy : ℕ → List Member → Hits → ℕ → Ruled → Lists → Ruled
+judgedBy kind ms h p st r =
+    let e = resultOf kind ms h p (r .effective) in
+    let q = resultOf kind ms h p (r .staged) in
+    ruled (and (st .left .0) e) (cond (r .stages) (or (st .differ .0) (differ e q)) (st .differ .0))
+
+unfoldable pub ruledFrom : ℕ → List Member → Hits → ℕ → Ruled → List Lists → Ruled
+ruledFrom kind ms h p st [] = st
+ruledFrom kind ms h p st (r ∷ rs) = ruledFrom kind ms h p (judgedBy kind ms h p st r) rs
+
+-- what all rules leave, and where staging differs
+abbrev pub ruledBy : ℕ → List Member → Hits → ℕ → List Lists → Ruled
+ruledBy kind ms h p rs = ruledFrom kind ms h p (ruled everything 0) rs

@@ -1,0 +1,15 @@
+-- "Token record (house format)", the flat listing, the token rules and the two converters, in the page's order.
+-- what a token is
+pub mod Token
+-- the fields, once for both formats
+pub mod Fields
+-- the packed record
+pub mod TokenRecord
+-- the flat listing
+pub mod FlatListing
+-- whom it shows
+pub mod Crowd
+-- the token rules (4)
+pub mod TokenRules
+-- the two converters, with 3, 4 and 11
+pub mod Converters

@@ -1,0 +1,10 @@
+// Token records, flat listings and the two converters.
+
+// A group's attribute word. A rights mask is another type, so that the two cannot change places.
+pub struct Attributes(pub u32);
+
+// A status number of the page (0, 3, 4 or 11) and how many bytes were written.
+pub struct Converted {
+    pub status: u32,
+    pub length: usize,
+}
