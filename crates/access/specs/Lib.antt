@@ -3,8 +3,12 @@
 pub mod Granted
 -- status numbers, in order of checking
 pub mod Status
+-- accepted questions, and the answer of the rules
+pub mod Accepted
 -- the question file
 pub mod QuestionFile
+-- the table of status numbers, line by line
+pub mod Conditions
 -- the bench cards as bytes
 pub mod Cards
 -- demand 3's words: strangers

@@ -4,14 +4,14 @@ use Prim.Native.Nat.{ℕ}
 use mathlib.Core.Path.{_≡_}
 use mathlib.Core.List.{List, [], _∷_, _++_}
 use mathlib.Core.Bool.{Bool, true, false, cond, _||_}
-use lib.ListN.{length}
 use Rattle.base.specs.Bytes.{same}
 use Rattle.lists.specs.Acl.{Entry}
-use Rattle.lists.specs.Descriptor.{partsOf, ownerOf}
+use Rattle.lists.specs.Descriptor.{ownerOf}
 use Rattle.tokens.specs.Token.{Group, Token}
 use Rattle.tokens.specs.TokenRules.{virtual, lists}
 use Rattle.policy.specs.Rules.{Lists, rulesOf}
-use Rattle.access.specs.Status.{Question, checked, daclIn}
+use Rattle.access.specs.Status.{Question, daclIn}
+use Rattle.access.specs.Accepted.{tokenIn}
 
 unfoldable pub inGroups : List ℕ → List Group → Bool
 inGroups w [] = false
@@ -44,19 +44,15 @@ pub data AlikeRules (t : Token) : List Lists → List Lists → Type 0 where
 
 -- "two accepted checks alike in token, object kind, mask, self identity and owner; alike in whether the access list is present; with as many policy
 -- rules, and staged lists in the same ones", every list reading the same once strangers are struck out
-pub record SameButStrangers (t : Token) (p q : Question) : Type 0 where
+pub record SameButStrangers (p q : Question) : Type 0 where
   pub kind : p .kind ≡ q .kind
   pub mask : p .mask ≡ q .mask
   pub token : p .token ≡ q .token
   pub self : p .self ≡ q .self
   pub owner : ownerOf (p .descriptor) ≡ ownerOf (q .descriptor)
   pub present : daclIn (p .descriptor) .present ≡ daclIn (q .descriptor) .present
-  pub list : struck t (daclIn (p .descriptor) .entries) ≡ struck t (daclIn (q .descriptor) .entries)
-  pub rules : AlikeRules t (rulesOf (p .policy)) (rulesOf (q .policy))
-
--- an accepted check
-abbrev pub Accepted : Question → Type 0
-Accepted q = checked q .status ≡ 0
+  pub list : struck (tokenIn p) (daclIn (p .descriptor) .entries) ≡ struck (tokenIn p) (daclIn (q .descriptor) .entries)
+  pub rules : AlikeRules (tokenIn p) (rulesOf (p .policy)) (rulesOf (q .policy))
 
 -- "a policy that gains one rule anywhere"
 pub record GainsRule (p q : List ℕ) : Type 0 where
@@ -65,3 +61,12 @@ pub record GainsRule (p q : List ℕ) : Type 0 where
   pub after : List Lists
   pub old : rulesOf p ≡ before ++ after
   pub new : rulesOf q ≡ before ++ gained ∷ after
+
+-- two questions that are the same but for a rule that the second policy has gained
+pub record SameButOneRule (p q : Question) : Type 0 where
+  pub kind : p .kind ≡ q .kind
+  pub mask : p .mask ≡ q .mask
+  pub token : p .token ≡ q .token
+  pub self : p .self ≡ q .self
+  pub descriptor : p .descriptor ≡ q .descriptor
+  pub policy : GainsRule (p .policy) (q .policy)

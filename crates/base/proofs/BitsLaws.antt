@@ -1,6 +1,6 @@
 -- Laws of masks, by their bits. The index:
 -- operations: and-assoc or-assoc and-or-distrib flip-flip split and-flip-apart.
--- Within: within-refl within-trans and-within-l and-within-r or-within-l or-within-r or-within; as a test: within-and and-within
+-- Within: within-refl within-trans and-within-l and-within-r zero-within and-mono or-within-l or-within-r or-within; as a test: within-and and-within
 -- covers-within within-covers.
 -- has: has-false has-true not-has no-common has-of-bit.
 -- Not here: the bit of an operation, mask-ext: BitLaws. and-comm or-comm xor-comm and-self or-self and-zero-l and-le-l and-lt or-lt
@@ -81,6 +81,17 @@ and-within-l a b i e = and-true (bit a i) (bit b i) (sym (and-bit a b i) ∙ e) 
 pub and-within-r : (a b : ℕ) → Within (and a b) b
 unfolding Within
 and-within-r a b i e = and-true (bit a i) (bit b i) (sym (and-bit a b i) ∙ e) .1
+
+pub zero-within : (a : ℕ) → Within 0 a
+unfolding Within
+zero-within a i e = let f = zero-bit i in let z : _≡_ {A = ℕ} 0 1 = cc in absurd (omega arith)
+
+pub and-mono : (a b c d : ℕ) → Within a b → Within c d → Within (and a c) (and b d)
+unfolding Within
+and-mono a b c d f g i e =
+    let x = f i (and-within-l a c i e) in
+    let y = g i (and-within-r a c i e) in
+    and-bit b d i ∙ rw (x, y)
 
 pub or-within-l : (a b : ℕ) → Within a (or a b)
 unfolding Within

@@ -1,1 +1,10 @@
--- Laws that belong to no one function.
+-- The laws of this crate's definitions, for the proofs of its callers.
+pub mod PartLaws
+pub mod SidLaws
+pub mod AclSteps
+pub mod EntrySteps
+pub mod AclLaws
+pub mod DescriptorSteps
+pub mod PieceLaws
+pub mod DescriptorLaws
+mod Cases

@@ -1,9 +1,9 @@
 -- "ACL: revision 2 or 4, a byte, size u16, count u16, two bytes. Size is at least 8 and fits. The entries follow back to back."
-use Prim.Native.Nat.{ℕ, zero, suc, _+_, _*_, _%_}
+use Prim.Native.Nat.{ℕ, zero, suc, _+_, _%_}
 use mathlib.Core.List.{List, [], _∷_}
 use mathlib.Core.Bool.{Bool, true, false, cond, _&&_, _||_}
 use lib.ListN.{length}
-use lib.Dec.{ltb, leb, eqb}
+use lib.Dec.{ltb, eqb}
 use Rattle.base.specs.Bytes.{byteAt, u16At, u32At, part}
 use Rattle.lists.specs.Sid.{sidEnd}
 use Rattle.lists.specs.declared.acl.Ace.{Ace}

@@ -1,9 +1,9 @@
 -- "Descriptor: 20 to 65,535 bytes; revision 1; control bit 0x8000 set; offsets of owner, group, SACL, DACL at 4, 8, 12, 16."
-use Prim.Native.Nat.{ℕ, _+_}
+use Prim.Native.Nat.{ℕ, _≤_}
 use mathlib.Core.List.{List, []}
-use mathlib.Core.Bool.{Bool, true, false, cond, not, _&&_, _||_}
+use mathlib.Core.Bool.{Bool, true, false, cond}
 use lib.ListN.{length}
-use lib.Dec.{ltb, leb, eqb}
+use lib.Dec.{ltb, eqb}
 use Rattle.base.specs.Bytes.{byteAt, u16At, u32At, part}
 use Rattle.base.specs.Bits.{has}
 use Rattle.lists.specs.Sid.{sidEnd}
@@ -14,6 +14,7 @@ use Rattle.lists.specs.declared.descriptor.Piece.{Piece}
 use Rattle.lists.specs.declared.descriptor.Piece.the-variants.{Bad, Absent, At, Alien}
 use Rattle.lists.specs.declared.descriptor.Verdict.{Verdict}
 use Rattle.lists.specs.declared.descriptor.Verdict.the-variants.{Whole, Misshapen, Ownerless, ForeignEntry}
+use Rattle.lists.specs.declared.descriptor.Extent.{Extent}
 use Rattle.lists.specs.declared.descriptor.Parts.{Parts}
 
 -- the page's number for each verdict
@@ -41,7 +42,8 @@ pieceOf a e scan.the-variants.Broken = Bad
 pieceOf a e scan.the-variants.Foreign = Alien a e
 pieceOf a e scan.the-variants.Plain = At a e
 
--- "Bit 0x0004 clear: null DACL, offset not followed. Set: the offset is at least 20 and points at an ACL. Bit 0x0010 likewise for the SACL."
+-- "Bit 0x0004 clear: null DACL, offset not followed. Set: the offset is at least 20 and points at an ACL.
+-- Bit 0x0010 likewise for the SACL."
 unfoldable pub aclPiece : Bool → List ℕ → Bool → ℕ → Piece
 aclPiece deep d followed off =
     let e = aclEnd d off in
@@ -93,6 +95,9 @@ endOf Absent = 0
 endOf (At a e) = e
 endOf (Alien a e) = e
 
+abbrev pub placeOf : Piece → Extent
+placeOf p = record { from = startOf p; to = endOf p }
+
 -- ---- the whole
 
 -- a refused read hands out empty parts
@@ -112,10 +117,10 @@ wholeParts o g s a =
     record {
       verdict = Whole;
       null = absent a;
-      owner = record { from = startOf o; to = endOf o };
-      group = record { from = startOf g; to = endOf g };
-      sacl = record { from = startOf s; to = endOf s };
-      dacl = record { from = startOf a; to = endOf a };
+      owner = placeOf o;
+      group = placeOf g;
+      sacl = placeOf s;
+      dacl = placeOf a;
     }
 
 -- shape over the whole part first; then 7, "owner offset is 0"; then 8, "DACL holds an entry type other than 0 or 1". Parts may overlap
@@ -143,3 +148,20 @@ saclOf d = part d (partsOf d .sacl .from) (partsOf d .sacl .to)
 
 abbrev pub daclOf : List ℕ → List ℕ
 daclOf d = part d (partsOf d .dacl .from) (partsOf d .dacl .to)
+
+-- ---- places that lie inside
+
+-- an extent of n bytes
+abbrev pub LiesIn : ℕ → Extent → Type 0
+LiesIn n x = (x .from ≤ x .to) × (x .to ≤ n)
+
+-- each part lies inside the n bytes of its descriptor, refused or not
+pub record Inside (n : ℕ) (p : Parts) : Type 0 where
+  pub owner : LiesIn n (p .owner)
+  pub group : LiesIn n (p .group)
+  pub sacl : LiesIn n (p .sacl)
+  pub dacl : LiesIn n (p .dacl)
+
+-- the bytes from place a up to place e; none where these do not lie inside
+unfoldable pub partIn : List ℕ → ℕ → ℕ → List ℕ
+partIn d a e = cond (ltb e a) [] (cond (ltb (length d) e) [] (part d a e))

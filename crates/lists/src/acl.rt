@@ -1,4 +1,12 @@
-// One list and its entries, at places of lent bytes.
+// One list and its entries, at places of lent bytes. What an identity is stands in `sid`.
+ghost use mathlib.Core.Path.{_≡_};
+ghost use mathlib.Core.Bool.{true, cond, _||_};
+ghost use Prim.Native.Nat.{_≤_};
+ghost use lib.ListN.{length};
+ghost use lib.Dec.{eqb};
+ghost use Rattle.lists.specs.Acl.{aclEnd, headEnd, named, holds, entryEnd};
+ghost use Rattle.lists.specs.Acl.{scanOf, noAce, aceAt};
+use crate::sid::sid_end;
 
 // A rights mask. A group's attribute word is another type, so that the two cannot change places.
 pub struct Rights(pub u32);
@@ -19,4 +27,168 @@ pub struct Ace {
     pub from: usize,
     pub to: usize,
     pub next: usize,
+}
+
+// "revision 2 or 4"
+fn is_revision(b: u8) -> bool
+    ensures { λ r. ⌜ r ≡ (eqb b 2 || eqb b 4) ⌝ }
+{
+    if b == 2 {
+        return true;
+    }
+    b == 4
+}
+
+// The place after the ACL whose heading stands at `at`, or 0.
+pub fn acl_end(s: &[u8], at: usize) -> usize
+    ensures { λ r. ⌜ r ≡ aclEnd (now (s .entry)) at ⌝ }
+    ensures { λ r. ⌜ r ≤ length (now (s .entry)) ⌝ }
+{
+    if s.len() < 8 {
+        return 0;
+    }
+    if s.len() - 8 < at {
+        return 0;
+    }
+    if !is_revision(s[at]) {
+        return 0;
+    }
+    let n = base::u16_at(s, at + 2) as usize;
+    if n < 8 {
+        return 0;
+    }
+    if s.len() - at < n {
+        return 0;
+    }
+    at + n
+}
+
+// The place after the entry whose heading stands at `at`, or 0. Its body is not judged.
+fn head_end(l: &[u8], at: usize) -> usize
+    ensures { λ r. ⌜ r ≡ headEnd (now (l .entry)) at ⌝ }
+    ensures { λ r. ⌜ r ≤ length (now (l .entry)) ⌝ }
+{
+    if l.len() < 4 {
+        return 0;
+    }
+    if l.len() - 4 < at {
+        return 0;
+    }
+    let n = base::u16_at(l, at + 2) as usize;
+    if n % 4 != 0 {
+        return 0;
+    }
+    if n < 4 {
+        return 0;
+    }
+    if l.len() - at < n {
+        return 0;
+    }
+    at + n
+}
+
+// Whether the entry from `at` to `e` holds a mask and one SID, and nothing more.
+fn holds(l: &[u8], at: usize, e: usize) -> bool
+    requires { ⌜ at ≤ length (now l) ⌝ }
+    ensures { λ r. ⌜ r ≡ holds (now (l .entry)) at e ⌝ }
+{
+    let k = sid_end(l, at + 8);
+    if k == 0 {
+        return false;
+    }
+    k == e
+}
+
+// The place after the entry at `at`, or 0. An allow or deny entry's body is judged where `deep`.
+fn entry_end(l: &[u8], at: usize, deep: bool) -> usize
+    ensures { λ r. ⌜ r ≡ entryEnd deep (now (l .entry)) at ⌝ }
+    ensures { λ r. ⌜ r ≤ length (now (l .entry)) ⌝ }
+{
+    let e = head_end(l, at);
+    if e == 0 {
+        return 0;
+    }
+    if !deep {
+        return e;
+    }
+    if 1 < l[at] {
+        return e;
+    }
+    if holds(l, at, e) {
+        return e;
+    }
+    0
+}
+
+// Whether a foreign type was met: before, or now that `kind` is.
+fn met(before: bool, kind: u8) -> bool
+    ensures { λ r. ⌜ r ≡ cond (named kind) before true ⌝ }
+{
+    if kind < 2 {
+        return before;
+    }
+    true
+}
+
+// What the entries of the list's own bytes are; deep in a DACL. One walk.
+pub fn scan_entries(l: &[u8], deep: bool) -> Scan
+    ensures { λ r. ⌜ r ≡ scanOf deep (now (l .entry)) ⌝ }
+{
+    let n = base::u16_at(l, 4);
+    let mut alien = false;
+    let mut at: usize = 8;
+    let mut k: u32 = 0;
+    while k < n {
+        let e = entry_end(l, at, deep);
+        if e == 0 {
+            return Scan::Broken;
+        }
+        alien = met(alien, l[at]);
+        at = e;
+        k += 1;
+    }
+    if alien {
+        return Scan::Foreign;
+    }
+    Scan::Plain
+}
+
+// No allow or deny entry.
+fn no_ace() -> Ace
+    ensures { λ r. ⌜ r ≡ noAce ⌝ }
+{
+    Ace {
+        kind: 0,
+        flags: 0,
+        mask: Rights(0),
+        from: 0,
+        to: 0,
+        next: 0,
+    }
+}
+
+// The allow or deny entry at a place of its list.
+pub fn ace_at(l: &[u8], at: usize) -> Ace
+    ensures { λ r. ⌜ r ≡ aceAt (now (l .entry)) at ⌝ }
+    ensures { λ r. ⌜ (r .from ≤ r .to)
+        × ((r .to ≤ length (now (l .entry))) × (r .next ≤ length (now (l .entry)))) ⌝ }
+{
+    let e = entry_end(l, at, true);
+    if e == 0 {
+        return no_ace();
+    }
+    let kind = l[at];
+    if 1 < kind {
+        return no_ace();
+    }
+    let to = sid_end(l, at + 8);
+    let mask = base::u32_at(l, at + 4);
+    Ace {
+        kind,
+        flags: l[at + 1],
+        mask: Rights(mask),
+        from: at + 8,
+        to,
+        next: e,
+    }
 }

@@ -1,10 +1,23 @@
-// Identities, lists and descriptors (MS-DTYP). Knows nothing of tokens.
+// Identities, lists and descriptors (MS-DTYP), read in place from lent bytes. Knows nothing of
+// tokens.
 mod acl;
 mod descriptor;
+mod sid;
 
 pub use acl::Ace;
 pub use acl::Rights;
 pub use acl::Scan;
+pub use acl::ace_at;
+pub use acl::acl_end;
+pub use acl::scan_entries;
 pub use descriptor::Extent;
 pub use descriptor::Parts;
 pub use descriptor::Verdict;
+pub use descriptor::dacl;
+pub use descriptor::group;
+pub use descriptor::owner;
+pub use descriptor::part;
+pub use descriptor::read;
+pub use descriptor::sacl;
+pub use sid::is_sid;
+pub use sid::sid_end;

@@ -9,3 +9,9 @@ pub mod OnePass
 pub mod NormalEvaluation
 -- the same list with the confinement identities alone
 pub mod Confinement
+-- how the code goes about it: a listing read seat by seat
+pub mod Seats
+-- how the code goes about it: a table of last bytes that dismisses strangers
+pub mod Marks
+-- what one walk answers, for every evaluation
+pub mod OneWalk

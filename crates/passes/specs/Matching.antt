@@ -21,12 +21,18 @@ among allow (m ∷ ms) w = let r = among allow ms w in cond (same (m .sid) w && 
 unfoldable pub stands : Bool → List Member → List ℕ → Bool
 stands allow ms w = cond (eqb (length w) 0) false (cond (virtual w) false (among allow ms w))
 
+abbrev pub hitBy : Bool → Bool → Hit
+hitBy allow deny = record { allow = allow; deny = deny }
+
+abbrev pub hitsBy : Hit → Hit → Hits
+hitsBy owner self = record { owner = owner; me = self }
+
 -- how an identity stands in for a virtual one, for allow and for deny
 abbrev pub hitOf : List Member → List ℕ → Hit
-hitOf ms w = record { allow = stands true ms w; deny = stands false ms w }
+hitOf ms w = hitBy (stands true ms w) (stands false ms w)
 
 unfoldable pub hitsOf : List Member → List ℕ → List ℕ → Hits
-hitsOf ms owner self = record { owner = hitOf ms owner; me = hitOf ms self }
+hitsOf ms owner self = hitsBy (hitOf ms owner) (hitOf ms self)
 
 abbrev pub side : Bool → Hit → Bool
 side allow h = cond allow (h .allow) (h .deny)

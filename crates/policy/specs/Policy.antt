@@ -1,7 +1,7 @@
 -- "Policy (source 004): at most 262,144 bytes; version 1; rule count u32, at most 256; per rule five sections with a u32 length: applies_to (at most
 -- 65,536), effective DACL (not empty), effective SACL, staged DACL, staged SACL. An ACL section's length equals its ACL's size. Nothing follows.
 -- An empty policy means none."
-use Prim.Native.Nat.{ℕ, zero, suc, _+_, _-_}
+use Prim.Native.Nat.{ℕ, zero, suc, _+_, _-_, _≤_}
 use mathlib.Core.List.{List, [], _∷_}
 use mathlib.Core.Bool.{Bool, true, false, cond, not, _&&_, _||_}
 use lib.ListN.{length}
@@ -36,6 +36,10 @@ sectionAt s at =
 abbrev pub bytesOf : List ℕ → Section → List ℕ
 bytesOf s x = part s (x .from) (x .to)
 
+-- a section lies within the bytes
+abbrev pub Lies : List ℕ → Section → Type 0
+Lies s x = (x .from ≤ x .to) × (x .to ≤ length s)
+
 -- "An ACL section's length equals its ACL's size."
 unfoldable pub aclSection : Bool → List ℕ → Scan
 aclSection deep l = let e = aclEnd l 0 in cond (eqb e 0) Broken (cond (eqb e (length l)) (scanOf deep l) Broken)
@@ -59,6 +63,10 @@ alien Plain = false
 -- misshapen: the place after it is 0
 abbrev pub noRule : Rule
 noRule = record { next = 0; unread = false; effective = section 0 0; staged = section 0 0 }
+
+-- a rule lies within the bytes, misshapen or not
+abbrev pub Placed : List ℕ → Rule → Type 0
+Placed s r = (r .next ≤ length s) × (Lies s (r .effective) × Lies s (r .staged))
 
 -- five sections, of which applies_to is at most 65,536 bytes
 unfoldable pub ruleOf : List ℕ → Section → Section → Section → Section → Section → Rule

@@ -2,11 +2,11 @@
 -- and otherwise unused." "Staging flag: some rule with a staged DACL whose effective and staged results differ on asked bits."
 use Prim.Native.Nat.{ℕ, zero, suc, _+_}
 use mathlib.Core.List.{List, [], _∷_}
-use mathlib.Core.Bool.{Bool, true, false, cond}
+use mathlib.Core.Bool.{Bool, true, false, cond, xor, _&&_, _||_}
 use lib.ListN.{length}
 use lib.Dec.{ltb, eqb}
 use Rattle.base.specs.Bytes.{u32At}
-use Rattle.base.specs.Bits.{and, or, differ}
+use Rattle.base.specs.Bits.{and, or, differ, bit}
 use Rattle.lists.specs.Acl.{Entry, entriesOf}
 use Rattle.tokens.specs.Crowd.{Member}
 use Rattle.passes.specs.NormalEvaluation.{normalOf, listed}
@@ -61,3 +61,16 @@ ruledFrom kind ms h p st (r ∷ rs) = ruledFrom kind ms h p (judgedBy kind ms h 
 -- what all rules leave, and where staging differs
 abbrev pub ruledBy : ℕ → List Member → Hits → ℕ → List Lists → Ruled
 ruledBy kind ms h p rs = ruledFrom kind ms h p (ruled everything 0) rs
+
+-- the same, bit by bit, without a state: a bit is left if every rule's effective result has it
+unfoldable pub everyRule : ℕ → List Member → Hits → ℕ → List Lists → ℕ → Bool
+everyRule kind ms h p [] i = true
+everyRule kind ms h p (r ∷ rs) i = let q = everyRule kind ms h p rs i in bit (resultOf kind ms h p (r .effective)) i && q
+
+-- and staging differs on it if "some rule with a staged DACL" has it in one result and not in the other
+unfoldable pub someStage : ℕ → List Member → Hits → ℕ → List Lists → ℕ → Bool
+someStage kind ms h p [] i = false
+someStage kind ms h p (r ∷ rs) i =
+    let q = someStage kind ms h p rs i in
+    let d = xor (bit (resultOf kind ms h p (r .effective)) i) (bit (resultOf kind ms h p (r .staged)) i) in
+    cond (r .stages) (d || q) q

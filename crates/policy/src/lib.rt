@@ -1,8 +1,13 @@
-// Policies: shape, and what the rules leave.
+// Policies: shape, and what the rules leave. Knows nothing of descriptors, of confinement or of what
+// is asked.
+mod one_rule;
 mod rules;
+mod sections;
 mod shape;
 
 pub use rules::Ruled;
+pub use rules::ruled_by;
 pub use shape::Rule;
 pub use shape::Section;
 pub use shape::Standing;
+pub use shape::judge_policy;

@@ -1,8 +1,127 @@
-// What the rules of a policy leave.
+// What the rules of a policy leave. The policy's shape is judged elsewhere: here its rules are found
+// by the lengths of their sections, and each list is walked once.
+ghost use mathlib.Core.Path.{_≡_};
+ghost use mathlib.Core.Bool.{true};
+ghost use Rattle.lists.specs.Acl.{entriesOf};
+ghost use Rattle.tokens.specs.Crowd.{crowdAt};
+ghost use Rattle.passes.specs.Marks.{kept};
+ghost use Rattle.policy.specs.Policy.{Placed};
+ghost use Rattle.policy.specs.Rules.{listsOf, resultOf, judgedBy, ruledBy};
+ghost use Rattle.policy.specs.Found.{stepAt, foundOf, keptLists, keptRules};
+use crate::sections::section_at;
+use crate::shape::Rule;
 use lists::Rights;
+use passes::Hits;
 
 // The bits left, and those on which effective and staged results differ.
 pub struct Ruled {
     pub left: Rights,
     pub differ: Rights,
+}
+
+// Before the first rule every bit is left.
+const EVERYTHING: u32 = 0xFFFFFFFF;
+
+const NOTHING: u32 = 0;
+
+// The rule at a place, by the lengths of its sections alone: its lists are not scanned.
+fn step_at(s: &[u8], at: usize) -> Rule
+    ensures { λ r. ⌜ r ≡ stepAt (now (s .entry)) at ⌝ }
+    ensures { λ r. ⌜ Placed (now (s .entry)) r ⌝ }
+{
+    let applies = section_at(s, at);
+    let effective = section_at(s, applies.to);
+    let sacl = section_at(s, effective.to);
+    let staged = section_at(s, sacl.to);
+    let last = section_at(s, staged.to);
+    Rule {
+        next: last.to,
+        unread: false,
+        effective,
+        staged,
+    }
+}
+
+// Normal evaluation with a rule's list for the descriptor's.
+fn result(
+    list: &[u8],
+    kind: u32,
+    listing: &[u8],
+    at: usize,
+    table: &[u8; 256],
+    hits: Hits,
+    privileges: u64,
+) -> Rights
+    ensures { λ r. ⌜ r .0 ≡ resultOf kind (crowdAt true (now (listing .entry)) at) hits privileges (kept (now (table .entry)) (entriesOf (now (list .entry)))) ⌝ }
+{
+    let walked = passes::pass(kind, list, listing, at, true, table, hits);
+    passes::normal(kind, true, walked, hits, privileges)
+}
+
+// What is left after one rule more.
+fn judged(
+    s: &[u8],
+    r: Rule,
+    before: Ruled,
+    kind: u32,
+    listing: &[u8],
+    at: usize,
+    table: &[u8; 256],
+    hits: Hits,
+    privileges: u64,
+) -> Ruled
+    requires { ⌜ Placed (now s) r ⌝ }
+    ensures { λ q. ⌜ q ≡ judgedBy kind (crowdAt true (now (listing .entry)) at) hits privileges before (keptLists (now (table .entry)) (listsOf (now (s .entry)) r)) ⌝ }
+{
+    let left = before.left;
+    let differ = before.differ;
+    let from = r.effective.from;
+    let to = r.effective.to;
+    let e = result(&s[from..to], kind, listing, at, table, hits, privileges);
+    let start = r.staged.from;
+    let end = r.staged.to;
+    if start < end {
+        let q = result(&s[start..end], kind, listing, at, table, hits, privileges);
+        return Ruled {
+            left: Rights(left.0 & e.0),
+            differ: Rights(differ.0 | (e.0 ^ q.0)),
+        };
+    }
+    Ruled {
+        left: Rights(left.0 & e.0),
+        differ,
+    }
+}
+
+// What all rules of a policy leave, for the crowd at a place of a listing; `table` and `hits` are
+// those of the same crowd.
+pub fn ruled_by(
+    s: &[u8],
+    kind: u32,
+    listing: &[u8],
+    at: usize,
+    table: &[u8; 256],
+    hits: Hits,
+    privileges: u64,
+) -> Ruled
+    ensures { λ r. ⌜ r ≡ ruledBy kind (crowdAt true (now (listing .entry)) at) hits privileges (keptRules (now (table .entry)) (foundOf (now (s .entry)))) ⌝ }
+{
+    let n = base::u32_at(s, 1);
+    let mut so_far = Ruled {
+        left: Rights(EVERYTHING),
+        differ: Rights(NOTHING),
+    };
+    let mut place: usize = 5;
+    let mut k: u32 = 0;
+    while k < n {
+        let r = step_at(s, place);
+        let next = r.next;
+        if next == 0 {
+            return so_far;
+        }
+        so_far = judged(s, r, so_far, kind, listing, at, table, hits, privileges);
+        place = next;
+        k += 1;
+    }
+    so_far
 }

@@ -3,6 +3,8 @@
 pub mod Token
 -- the fields, once for both formats
 pub mod Fields
+-- the ranges of the fields
+pub mod Shaped
 -- the packed record
 pub mod TokenRecord
 -- the flat listing
@@ -13,3 +15,7 @@ pub mod Crowd
 pub mod TokenRules
 -- the two converters, with 3, 4 and 11
 pub mod Converters
+-- what unpacking leaves in a buffer
+pub mod Unpacking
+-- what the judge of a listing answers
+pub mod Judging

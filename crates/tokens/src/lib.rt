@@ -1,5 +1,8 @@
 // Token records, flat listings and the two converters.
 
+mod judge;
+mod unpack;
+
 // A group's attribute word. A rights mask is another type, so that the two cannot change places.
 pub struct Attributes(pub u32);
 

@@ -1,0 +1,56 @@
+-- The definitions tried on small inputs, by computation: identities, and the descriptor D of the bench cards.
+-- Assumes nothing.
+use Prim.Native.Nat.{ℕ}
+use mathlib.Core.Path.{_≡_, refl}
+use mathlib.Core.List.{List, [], _∷_}
+use mathlib.Core.Bool.{true, false}
+use lib.ListN.{drop}
+use Rattle.base.specs.Bytes.{same, u16At, u32At}
+use Rattle.lists.specs.Sid.{sidEnd, isSid}
+use Rattle.lists.specs.Acl.{aclEnd, headEnd, holds, entryEnd, shaped, foreign, scanOf, aceAt, entriesAt, entriesOf}
+use Rattle.lists.specs.Descriptor.{numberOf, heading, sidPiece, aclPiece, judged, partsOf, ownerOf, groupOf, saclOf, daclOf}
+
+-- "U is S-1-5-0-7, W is S-1-5-7"
+u : List ℕ
+u = 1 ∷ 2 ∷ 0 ∷ 0 ∷ 0 ∷ 0 ∷ 0 ∷ 5 ∷ 0 ∷ 0 ∷ 0 ∷ 0 ∷ 7 ∷ 0 ∷ 0 ∷ 0 ∷ []
+
+w : List ℕ
+w = 1 ∷ 1 ∷ 0 ∷ 0 ∷ 0 ∷ 0 ∷ 0 ∷ 5 ∷ 7 ∷ 0 ∷ 0 ∷ 0 ∷ []
+
+-- both are identities, and not the same: neither their last words nor the words that are not 0 tell
+identities : (isSid u ≡ true) × (isSid w ≡ true) × (same u w ≡ false)
+unfolding isSid sidEnd same u w
+identities = (refl, refl, refl)
+
+-- an identity of no words, one of a count too many, and one with a byte after it
+counts : (isSid (1 ∷ 0 ∷ 0 ∷ 0 ∷ 0 ∷ 0 ∷ 0 ∷ 5 ∷ []) ≡ true) × (isSid (1 ∷ 1 ∷ 0 ∷ 0 ∷ 0 ∷ 0 ∷ 0 ∷ 5 ∷ []) ≡ false)
+    × (isSid (1 ∷ 0 ∷ 0 ∷ 0 ∷ 0 ∷ 0 ∷ 0 ∷ 5 ∷ 0 ∷ []) ≡ false)
+unfolding isSid sidEnd
+counts = (refl, refl, refl)
+
+-- "Descriptor D (64 bytes)"
+d : List ℕ
+d =
+    1 ∷ 0 ∷ 4 ∷ 128 ∷ 20 ∷ 0 ∷ 0 ∷ 0 ∷ 0 ∷ 0 ∷ 0 ∷ 0 ∷ 0 ∷ 0 ∷ 0 ∷ 0 ∷ 32 ∷ 0 ∷ 0 ∷ 0
+    ∷ 1 ∷ 1 ∷ 0 ∷ 0 ∷ 0 ∷ 0 ∷ 0 ∷ 5 ∷ 7 ∷ 0 ∷ 0 ∷ 0
+    ∷ 2 ∷ 0 ∷ 32 ∷ 0 ∷ 1 ∷ 0 ∷ 0 ∷ 0
+    ∷ 0 ∷ 0 ∷ 24 ∷ 0 ∷ 0 ∷ 0 ∷ 0 ∷ 128 ∷ 1 ∷ 2 ∷ 0 ∷ 0 ∷ 0 ∷ 0 ∷ 0 ∷ 5 ∷ 0 ∷ 0 ∷ 0 ∷ 0 ∷ 7 ∷ 0 ∷ 0 ∷ 0 ∷ []
+
+-- D is accepted and owned by W; it has no group and no SACL
+card : (numberOf (partsOf d .verdict) ≡ 0) × (partsOf d .null ≡ false) × (ownerOf d ≡ w) × (groupOf d ≡ []) × (saclOf d ≡ [])
+unfolding numberOf partsOf heading judged sidPiece aclPiece sidEnd aclEnd headEnd holds entryEnd shaped foreign scanOf u16At u32At w d
+card = (refl, refl, refl, refl, refl)
+
+-- the DACL of D
+a : List ℕ
+a = drop 32 d
+
+-- its DACL is handed out as its very bytes
+handed : daclOf d ≡ a
+unfolding partsOf heading judged sidPiece aclPiece sidEnd aclEnd headEnd holds entryEnd shaped foreign scanOf u16At u32At d a
+handed = refl
+
+-- and allows U all reading
+allows : entriesOf a ≡ record { kind = 0; flags = 0; mask = 0x80000000; sid = u } ∷ []
+unfolding sidEnd headEnd holds entryEnd aceAt entriesAt entriesOf u16At u32At u d a
+allows = refl

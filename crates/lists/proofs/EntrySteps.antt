@@ -1,0 +1,175 @@
+-- What an entry is, and what all are, by each test in its order. For `holds`, `entry_end`, `scan_entries` and `ace_at`.
+-- In order: an entry's body (holds-..), the whole entry (entry-end-..), the walk over all entries (Left, scan-..), the entry that the code
+-- reads (found, ace-at-..).
+-- Not here: headings, AclSteps; what an accepted list is, AclLaws. Assumes nothing.
+use Prim.Native.Nat.{ℕ, suc, _+_, _-_, _<_, _≤_}
+use mathlib.Core.Path.{_≡_, refl, sym, ap, _∙_}
+use mathlib.Core.List.{List}
+use mathlib.Core.Bool.{Bool, true, false, cond, _&&_, _||_}
+use native.Mathlib.Omega.{arith}
+use lib.ListN.{length}
+use borrow.Author.Tests.{lt-ltb, le-ltb, eq-eqb, ne-eqb}
+use Rattle.base.specs.Bytes.{byteAt, u16At, u32At}
+use Rattle.lists.specs.Sid.{sidEnd}
+use Rattle.lists.specs.Acl.{headEnd, named, fitting, holds, entryEnd, shaped, foreign, scanned, scanOf, noAce, aceAt}
+use Rattle.lists.specs.declared.acl.Ace.{Ace}
+use Rattle.lists.specs.declared.acl.Scan.{Scan}
+use Rattle.lists.specs.declared.acl.Scan.the-variants.{Broken, Foreign, Plain}
+use Rattle.lists.proofs.AclSteps.{head-end-bounds}
+
+-- ---- an entry's body, and the whole entry
+
+module _ (l : List ℕ) (at e : ℕ) where
+  pub holds-none : sidEnd l (at + 8) ≡ 0 → holds l at e ≡ false
+  unfolding holds
+  holds-none h = rw (eq-eqb (sidEnd l (at + 8)) 0 h)
+
+  pub holds-some : (sidEnd l (at + 8) ≡ 0 → ⊥) → holds l at e ≡ fitting (sidEnd l (at + 8)) e
+  unfolding holds
+  holds-some h = rw (ne-eqb (sidEnd l (at + 8)) 0 h)
+
+-- an entry ends where its heading says, or is misshapen
+picked : (t u : Bool) (e : ℕ) → (cond t (cond u e 0) e ≡ 0 → ⊥) → cond t (cond u e 0) e ≡ e
+picked true true e h = refl
+picked true false e h = absurd (h refl)
+picked false u e h = refl
+
+module _ (deep : Bool) (l : List ℕ) (at : ℕ) where
+  pub entry-end-none : headEnd l at ≡ 0 → entryEnd deep l at ≡ 0
+  unfolding entryEnd
+  entry-end-none h = go (deep && named (byteAt l at)) (holds l at (headEnd l at))
+    where
+      go : (t u : Bool) → cond t (cond u (headEnd l at) 0) (headEnd l at) ≡ 0
+      go true true = h
+      go true false = refl
+      go false u = h
+
+  pub entry-end-is : (entryEnd deep l at ≡ 0 → ⊥) → entryEnd deep l at ≡ headEnd l at
+  unfolding entryEnd
+  entry-end-is h = picked (deep && named (byteAt l at)) (holds l at (headEnd l at)) (headEnd l at) h
+
+  pub entry-end-foreign : 2 ≤ byteAt l at → entryEnd deep l at ≡ headEnd l at
+  unfolding entryEnd
+  entry-end-foreign h = rw (le-ltb (byteAt l at) 2 h) (go deep)
+    where
+      go : (t : Bool) → cond (t && false) (cond (holds l at (headEnd l at)) (headEnd l at) 0) (headEnd l at) ≡ headEnd l at
+      go true = refl
+      go false = refl
+
+  pub entry-end-bounds : (entryEnd deep l at ≡ 0 → ⊥) → (at + 4 ≤ entryEnd deep l at) × (entryEnd deep l at ≤ length l)
+  entry-end-bounds h =
+      let e : entryEnd deep l at ≡ headEnd l at = entry-end-is h in
+      let b = head-end-bounds l at (λ q. h (e ∙ q)) in
+      let b0 : at + 4 ≤ headEnd l at = b .0 in
+      let b1 : headEnd l at ≤ length l = b .1 in
+      (omega arith, omega arith)
+
+pub entry-end-shallow : (l : List ℕ) (at : ℕ) → entryEnd false l at ≡ headEnd l at
+unfolding entryEnd
+entry-end-shallow l at = refl
+
+pub entry-end-named : (l : List ℕ) (at : ℕ) → byteAt l at < 2 → entryEnd true l at ≡ cond (holds l at (headEnd l at)) (headEnd l at) 0
+unfolding entryEnd
+entry-end-named l at h = rw (lt-ltb (byteAt l at) 2 h)
+
+-- ---- the walk over all entries
+
+-- what m entries from a place come to, after a foreign type was met or not
+abbrev pub Left : Bool → List ℕ → Bool → ℕ → ℕ → Scan
+Left deep l met m at = scanned (shaped deep l m at) (met || foreign deep l m at)
+
+pub scan-start : (deep : Bool) (l : List ℕ) → scanOf deep l ≡ Left deep l false (u16At l 4) 8
+unfolding scanOf
+scan-start deep l = refl
+
+module _ (deep : Bool) (l : List ℕ) (met : Bool) (m k at : ℕ) where
+  pub scan-end : m ≤ k → Left deep l met (m - k) at ≡ cond met Foreign Plain
+  unfolding shaped foreign
+  scan-end h = let e : m - k ≡ 0 = omega arith in rw e (go met)
+    where
+      go : (t : Bool) → cond (t || false) Foreign Plain ≡ cond t Foreign Plain
+      go true = refl
+      go false = refl
+
+  pub scan-broken : k < m → entryEnd deep l at ≡ 0 → Left deep l met (m - k) at ≡ Broken
+  unfolding shaped
+  scan-broken h e = let n : m - k ≡ suc (m - (k + 1)) = omega arith in rw (n, eq-eqb (entryEnd deep l at) 0 e)
+
+  pub scan-more : k < m → (entryEnd deep l at ≡ 0 → ⊥) →
+      Left deep l met (m - k) at ≡ Left deep l (cond (named (byteAt l at)) met true) (m - (k + 1)) (entryEnd deep l at)
+  unfolding shaped foreign
+  scan-more h e =
+      let n : m - k ≡ suc (m - (k + 1)) = omega arith in
+      rw (n, ne-eqb (entryEnd deep l at) 0 e)
+      (ap (scanned (shaped deep l (m - (k + 1)) (entryEnd deep l at))) (go met (named (byteAt l at))))
+    where
+      rest : Bool
+      rest = foreign deep l (m - (k + 1)) (entryEnd deep l at)
+
+      go : (t u : Bool) → (t || cond u rest true) ≡ (cond u t true || rest)
+      go true true = refl
+      go true false = refl
+      go false true = refl
+      go false false = refl
+
+-- ---- the entry that the code reads
+
+module _ (l : List ℕ) (at : ℕ) where
+  pub ace-at-none : entryEnd true l at ≡ 0 → aceAt l at ≡ noAce
+  unfolding aceAt
+  ace-at-none h = rw (eq-eqb (entryEnd true l at) 0 h) (go (named (byteAt l at)))
+    where
+      go : (t : Bool) → cond t noAce noAce ≡ noAce
+      go true = refl
+      go false = refl
+
+  pub ace-at-foreign : 2 ≤ byteAt l at → aceAt l at ≡ noAce
+  unfolding aceAt
+  ace-at-foreign h = rw (le-ltb (byteAt l at) 2 h)
+
+  -- the entry where one stands
+  abbrev pub found : Ace
+  found =
+      record {
+        kind = byteAt l at;
+        flags = byteAt l (at + 1);
+        mask = record { 0 = u32At l (at + 4) };
+        from = at + 8;
+        to = sidEnd l (at + 8);
+        next = entryEnd true l at;
+      }
+
+  pub ace-at-some : byteAt l at < 2 → (entryEnd true l at ≡ 0 → ⊥) → aceAt l at ≡ found
+  unfolding aceAt
+  ace-at-some n h = rw (lt-ltb (byteAt l at) 2 n, ne-eqb (entryEnd true l at) 0 h)
+
+  -- the entry, from what the code read of it
+  pub ace-at-made : (m t e : ℕ) → m ≡ u32At l (at + 4) → t ≡ sidEnd l (at + 8) → e ≡ entryEnd true l at →
+      byteAt l at < 2 → (entryEnd true l at ≡ 0 → ⊥) →
+      _≡_
+      {A = Ace}
+      (record {
+        kind = byteAt l at;
+        flags = byteAt l (at + 1);
+        mask = record { 0 = m };
+        from = at + 8;
+        to = t;
+        next = e;
+      })
+      (aceAt l at)
+  ace-at-made m t e p q r n h = rw (p, q, r) (sym (ace-at-some n h))
+
+  -- an allow or deny entry that is well shaped holds a SID
+  pub entry-end-holds : byteAt l at < 2 → (entryEnd true l at ≡ 0 → ⊥) → holds l at (entryEnd true l at) ≡ true
+  entry-end-holds n h = go (holds l at (headEnd l at)) refl
+    where
+      go : (t : Bool) → holds l at (headEnd l at) ≡ t → holds l at (entryEnd true l at) ≡ true
+      go true q = ap (holds l at) (entry-end-is true l at h) ∙ q
+      go false q = absurd (h (rw (entry-end-named l at n, q) refl))
+
+  pub entry-end-sid : byteAt l at < 2 → (entryEnd true l at ≡ 0 → ⊥) → sidEnd l (at + 8) ≡ 0 → ⊥
+  entry-end-sid n h q =
+      let f = holds-none l at (entryEnd true l at) q in
+      let t = entry-end-holds n h in
+      let z : _≡_ {A = ℕ} 0 1 = cc in
+      omega arith

@@ -1,0 +1,130 @@
+// A token's flat listing, read in place, seat by seat.
+ghost use mathlib.Core.Path.{_≡_};
+ghost use mathlib.Core.Bool.{cond};
+ghost use Prim.Native.Nat.{_≤_};
+ghost use lib.ListN.{length};
+ghost use Rattle.passes.specs.Seats.{allowWord, denyWord, noSeat, onward, firstSeat, seatAt, sits};
+use tokens::Attributes;
+
+// An identity of a listing: its SID stands from `from` to `to`, and `next` is the place after what
+// belongs to it. All 0 where no SID stands.
+pub struct Seat {
+    pub from: usize,
+    pub to: usize,
+    pub next: usize,
+    pub allows: bool,
+    pub denies: bool,
+}
+
+// Whether a group with these attributes matches for allow.
+fn allows(a: Attributes) -> bool
+    ensures { λ r. ⌜ r ≡ allowWord (a .0) ⌝ }
+{
+    if a.0 & 0x4 == 0 {
+        return false;
+    }
+    a.0 & 0x10 == 0
+}
+
+// Whether a group with these attributes matches for deny.
+fn denies(a: Attributes) -> bool
+    ensures { λ r. ⌜ r ≡ denyWord (a .0) ⌝ }
+{
+    a.0 & 0x14 != 0
+}
+
+// The place `n` bytes after `e`, or the end of the bytes.
+fn onward(s: &[u8], e: usize, n: usize) -> usize
+    requires { ⌜ e ≤ length (now s) ⌝ }
+    ensures { λ r. ⌜ r ≡ onward (now (s .entry)) e n ⌝ }
+    ensures { λ r. ⌜ r ≤ length (now (s .entry)) ⌝ }
+{
+    if s.len() - e < n {
+        return s.len();
+    }
+    e + n
+}
+
+// No identity.
+fn no_seat() -> Seat
+    ensures { λ r. ⌜ r ≡ noSeat ⌝ }
+{
+    Seat {
+        from: 0,
+        to: 0,
+        next: 0,
+        allows: false,
+        denies: false,
+    }
+}
+
+// The first identity of a crowd, which a count follows.
+pub fn first_seat(s: &[u8], at: usize) -> Seat
+    ensures { λ r. ⌜ r ≡ firstSeat (now (s .entry)) at ⌝ }
+    ensures { λ r. ⌜ (r .from ≤ r .to) × ((r .to ≤ length (now (s .entry))) × (r .next ≤ length (now (s .entry)))) ⌝ }
+{
+    let e = lists::sid_end(s, at);
+    if e == 0 {
+        return no_seat();
+    }
+    let next = onward(s, e, 4);
+    Seat {
+        from: at,
+        to: e,
+        next,
+        allows: true,
+        denies: true,
+    }
+}
+
+// The member at a place: with an attribute word after it where `attrs`, else for both.
+pub fn seat_at(s: &[u8], at: usize, attrs: bool) -> Seat
+    ensures { λ r. ⌜ r ≡ seatAt attrs (now (s .entry)) at ⌝ }
+    ensures { λ r. ⌜ (r .from ≤ r .to) × ((r .to ≤ length (now (s .entry))) × (r .next ≤ length (now (s .entry)))) ⌝ }
+{
+    let e = lists::sid_end(s, at);
+    if e == 0 {
+        return no_seat();
+    }
+    if !attrs {
+        return Seat {
+            from: at,
+            to: e,
+            next: e,
+            allows: true,
+            denies: true,
+        };
+    }
+    let word = Attributes(base::u32_at(s, e));
+    let next = onward(s, e, 4);
+    Seat {
+        from: at,
+        to: e,
+        next,
+        allows: allows(word),
+        denies: denies(word),
+    }
+}
+
+// Whether the identity in a seat matches for allow, or for deny.
+fn ready(x: Seat, allow: bool) -> bool
+    ensures { λ r. ⌜ r ≡ cond allow (x .allows) (x .denies) ⌝ }
+{
+    if allow {
+        return x.allows;
+    }
+    x.denies
+}
+
+// Whether the identity in a seat of the listing is the SID, and matches.
+pub fn sits(listing: &[u8], x: Seat, w: &[u8], allow: bool) -> bool
+    requires { ⌜ (x .from ≤ x .to) × (x .to ≤ length (now listing)) ⌝ }
+    ensures { λ r. ⌜ r ≡ sits allow (now (listing .entry)) x (now (w .entry)) ⌝ }
+{
+    if !ready(x, allow) {
+        return false;
+    }
+    let from = x.from;
+    let to = x.to;
+    base::same(&listing[from..to], w)
+}

@@ -1,0 +1,226 @@
+-- What an accepted policy is. In order: a rule that is well shaped (shaped-rule, next-is, step-same); a standing taken apart (sound-parts); the rules of an
+-- accepted policy: each is there and has plain lists (sound-rules), there are as many as the heading says (sound-count), and they are found by the
+-- lengths of their sections alone (sound-found). Assumes nothing.
+use Prim.Native.Nat.{ℕ, zero, suc, _+_, _-_, _<_, _≤_}
+use mathlib.Core.Path.{_≡_, refl, sym, ap, ap₂, _∙_}
+use mathlib.Core.List.{List, [], _∷_}
+use mathlib.Core.Bool.{Bool, true, false, cond, _||_}
+use native.Mathlib.Omega.{arith}
+use lib.ListN.{length}
+use lib.Dec.{ltb, eqb}
+use borrow.Author.Tests.{lt-ltb, le-ltb, ltb-true, ltb-false, eq-eqb, ne-eqb, eqb-true, eqb-false}
+use Rattle.base.specs.Bytes.{byteAt, u32At}
+use Rattle.base.proofs.WordsLaws.{u32-at-out}
+use Rattle.lists.specs.Acl.{aclEnd, scanOf}
+use Rattle.lists.specs.declared.acl.Scan.{Scan}
+use Rattle.lists.specs.declared.acl.Scan.the-variants.{Broken, Foreign, Plain}
+use Rattle.policy.specs.Policy.{section, sectionAt, bytesOf, aclSection, maybeAcl, broken, alien, noRule, ruleOf, ruleAt}
+use Rattle.policy.specs.Policy.{rulesShaped, rulesUnread, standing, standingOf}
+use Rattle.policy.specs.Rules.{Lists, listsOf, rulesAt, rulesOf}
+use Rattle.policy.specs.Found.{stepAt, foundAt, foundOf}
+use Rattle.policy.specs.declared.shape.Section.{Section}
+use Rattle.policy.specs.declared.shape.Rule.{Rule}
+use Rattle.policy.specs.declared.shape.Standing.{Standing}
+use Rattle.policy.specs.declared.shape.Standing.the-variants.{Sound, Misshapen, Unread}
+use Rattle.policy.proofs.OneRuleSteps.{listIn, maybeIn, made, rule-unfit, rule-long, rule-dacl, rule-sacl, rule-staged, rule-last, rule-whole}
+use Rattle.policy.proofs.PolicySteps.{standing-empty, standing-long, standing-short, standing-other, standing-many, standing-rules}
+
+-- ---- a rule that is well shaped
+
+-- of a rule that is not misshapen: its access lists are not broken, and it is made of its sections
+pub record Shaped (s : List ℕ) (applies dacl sacl staged last : Section) : Type 0 where
+  pub effective : broken (listIn s dacl) ≡ false
+  pub stages : broken (maybeIn true s staged) ≡ false
+  pub is : ruleOf s applies dacl sacl staged last ≡ made s applies dacl sacl staged last (listIn s dacl) (maybeIn true s staged)
+
+module _ (s : List ℕ) (applies dacl sacl staged last : Section) where
+  pub shaped-rule : (ruleOf s applies dacl sacl staged last .next ≡ 0 → ⊥) → Shaped s applies dacl sacl staged last
+  shaped-rule h =
+      go
+      (eqb (applies .to) 0) refl
+      (ltb 65536 (applies .to - applies .from)) refl
+      (broken (listIn s dacl)) refl
+      (broken (maybeIn false s sacl)) refl
+      (broken (maybeIn true s staged)) refl
+      (broken (maybeIn false s last)) refl
+    where
+      no : ruleOf s applies dacl sacl staged last ≡ noRule → ⊥
+      no e = h (ap (λ (r : Rule). r .next) e)
+
+      go : (a : Bool) → eqb (applies .to) 0 ≡ a → (b : Bool) → ltb 65536 (applies .to - applies .from) ≡ b →
+          (d : Bool) → broken (listIn s dacl) ≡ d → (x : Bool) → broken (maybeIn false s sacl) ≡ x →
+          (t : Bool) → broken (maybeIn true s staged) ≡ t → (y : Bool) → broken (maybeIn false s last) ≡ y →
+          Shaped s applies dacl sacl staged last
+      go true ea b eb d ed x ex t et y ey = absurd (no (rule-unfit s applies dacl sacl staged last (eqb-true _ _ ea)))
+      go false ea true eb d ed x ex t et y ey =
+          absurd (no (rule-long s applies dacl sacl staged last (eqb-false _ _ ea) (ltb-true _ _ eb)))
+      go false ea false eb true ed x ex t et y ey =
+          absurd (no (rule-dacl s applies dacl sacl staged last (eqb-false _ _ ea) (ltb-false _ _ eb) ed))
+      go false ea false eb false ed true ex t et y ey =
+          absurd (no (rule-sacl s applies dacl sacl staged last (eqb-false _ _ ea) (ltb-false _ _ eb) ed ex))
+      go false ea false eb false ed false ex true et y ey =
+          absurd (no (rule-staged s applies dacl sacl staged last (eqb-false _ _ ea) (ltb-false _ _ eb) ed ex et))
+      go false ea false eb false ed false ex false et true ey =
+          absurd (no (rule-last s applies dacl sacl staged last (eqb-false _ _ ea) (ltb-false _ _ eb) ed ex et ey))
+      go false ea false eb false ed false ex false et false ey =
+          record {
+            effective = ed;
+            stages = et;
+            is = rule-whole s applies dacl sacl staged last (eqb-false _ _ ea) (ltb-false _ _ eb) ed ex et ey;
+          }
+
+-- the sections alone find the same rule
+pub step-same : (s : List ℕ) (at : ℕ) → (ruleAt s at .next ≡ 0 → ⊥) →
+    (stepAt s at .next ≡ ruleAt s at .next) × (listsOf s (stepAt s at) ≡ listsOf s (ruleAt s at))
+unfolding ruleAt stepAt
+step-same s at h =
+    let applies = sectionAt s at in
+    let dacl = sectionAt s (applies .to) in
+    let sacl = sectionAt s (dacl .to) in
+    let staged = sectionAt s (sacl .to) in
+    let e = shaped-rule s applies dacl sacl staged (sectionAt s (staged .to)) h .is in
+    (ap (λ (r : Rule). r .next) (sym e), ap (listsOf s) (sym e))
+
+-- ---- plain lists
+
+-- a list that is neither broken nor alien
+plain-is : (x : Scan) → broken x ≡ false → alien x ≡ false → x ≡ Plain
+plain-is Broken e f = let z : _≡_ {A = ℕ} 0 1 = cc in absurd (omega arith)
+plain-is Foreign e f = let z : _≡_ {A = ℕ} 0 1 = cc in absurd (omega arith)
+plain-is Plain e f = refl
+
+plain-there : (b : Bool) (x : Scan) → cond b Broken x ≡ Plain → x ≡ Plain
+plain-there true x e = let z : _≡_ {A = ℕ} 0 1 = cc in absurd (omega arith)
+plain-there false x e = e
+
+-- an ACL section with plain entries is its list, whole
+pub acl-plain : (deep : Bool) (l : List ℕ) → aclSection deep l ≡ Plain → (aclEnd l 0 ≡ length l) × (scanOf deep l ≡ Plain)
+unfolding aclSection
+acl-plain deep l h = go (eqb (aclEnd l 0) 0) (eqb (aclEnd l 0) (length l)) refl h
+  where
+    go : (a b : Bool) → eqb (aclEnd l 0) (length l) ≡ b → cond a Broken (cond b (scanOf deep l) Broken) ≡ Plain →
+        (aclEnd l 0 ≡ length l) × (scanOf deep l ≡ Plain)
+    go true b e f = let z : _≡_ {A = ℕ} 0 1 = cc in absurd (omega arith)
+    go false true e f = (eqb-true _ _ e, f)
+    go false false e f = let z : _≡_ {A = ℕ} 0 1 = cc in absurd (omega arith)
+
+-- a rule that is there, with plain lists only
+pub record PlainRule (s : List ℕ) (r : Rule) : Type 0 where
+  pub there : r .next ≡ 0 → ⊥
+  pub effective : aclSection true (bytesOf s (r .effective)) ≡ Plain
+  pub staged : maybeAcl true (bytesOf s (r .staged)) ≡ Plain
+
+or-false : (a b : Bool) → (a || b) ≡ false → (a ≡ false) × (b ≡ false)
+or-false true b e = let z : _≡_ {A = ℕ} 0 1 = cc in absurd (omega arith)
+or-false false b e = (refl, e)
+
+pub plain-rule : (s : List ℕ) (at : ℕ) → (ruleAt s at .next ≡ 0 → ⊥) → ruleAt s at .unread ≡ false → PlainRule s (ruleAt s at)
+unfolding ruleAt
+plain-rule s at h u =
+    let applies = sectionAt s at in
+    let dacl = sectionAt s (applies .to) in
+    let sacl = sectionAt s (dacl .to) in
+    let staged = sectionAt s (sacl .to) in
+    let f = shaped-rule s applies dacl sacl staged (sectionAt s (staged .to)) h in
+    let o =
+    or-false
+    (ltb (applies .from) (applies .to) || alien (listIn s dacl))
+    (alien (maybeIn true s staged))
+    (ap (λ (r : Rule). r .unread) (sym (f .is)) ∙ u) in
+    let a = or-false (ltb (applies .from) (applies .to)) (alien (listIn s dacl)) (o .0) in
+    record {
+      there = h;
+      effective =
+          ap (λ (r : Rule). aclSection true (bytesOf s (r .effective))) (f .is)
+          ∙ plain-there (eqb (dacl .to) 0) _ (plain-is (listIn s dacl) (f .effective) (a .1));
+      staged =
+          ap (λ (r : Rule). maybeAcl true (bytesOf s (r .staged))) (f .is)
+          ∙ plain-there (eqb (staged .to) 0) _ (plain-is (maybeIn true s staged) (f .stages) (o .1));
+    }
+
+-- ---- the whole
+
+-- n plain rules stand back to back from a place
+unfoldable pub PlainRules : List ℕ → ℕ → ℕ → Type 0
+PlainRules s zero at = Unit
+PlainRules s (suc n) at = PlainRule s (ruleAt s at) × PlainRules s n (ruleAt s at .next)
+
+walked-plain : (s : List ℕ) (n at : ℕ) → rulesShaped s n at ≡ true → rulesUnread s n at ≡ false → PlainRules s n at
+unfolding rulesShaped rulesUnread PlainRules
+walked-plain s zero at a b = tt
+walked-plain s (suc n) at a b = go (eqb (ruleAt s at .next) 0) refl (ruleAt s at .unread) refl a b (walked-plain s n (ruleAt s at .next))
+  where
+    go : (t : Bool) → eqb (ruleAt s at .next) 0 ≡ t → (u : Bool) → ruleAt s at .unread ≡ u →
+        cond t false (rulesShaped s n (ruleAt s at .next)) ≡ true → cond u true (rulesUnread s n (ruleAt s at .next)) ≡ false →
+        (rulesShaped s n (ruleAt s at .next) ≡ true → rulesUnread s n (ruleAt s at .next) ≡ false → PlainRules s n (ruleAt s at .next)) →
+        PlainRule s (ruleAt s at) × PlainRules s n (ruleAt s at .next)
+    go true e u f x y rest = let z : _≡_ {A = ℕ} 0 1 = cc in absurd (omega arith)
+    go false e true f x y rest = let z : _≡_ {A = ℕ} 0 1 = cc in absurd (omega arith)
+    go false e false f x y rest = (plain-rule s at (eqb-false _ _ e) f, rest x y)
+
+sound-standing : (a b : Bool) → standing a b ≡ Sound → (a ≡ true) × (b ≡ false)
+sound-standing true true e = let z : _≡_ {A = ℕ} 0 1 = cc in absurd (omega arith)
+sound-standing true false e = (refl, refl)
+sound-standing false b e = let z : _≡_ {A = ℕ} 0 1 = cc in absurd (omega arith)
+
+module _ (s : List ℕ) (sound : standingOf s ≡ Sound) where
+  -- each rule is there, and every list of it scans plain. An empty policy counts no rules
+  pub sound-rules : PlainRules s (u32At s 1) 5
+  unfolding PlainRules
+  sound-rules =
+      go
+      (eqb (length s) 0) refl
+      (ltb 262144 (length s)) refl
+      (ltb (length s) 5) refl
+      (eqb (byteAt s 0) 1) refl
+      (ltb 256 (u32At s 1)) refl
+    where
+      no : standingOf s ≡ Misshapen → ⊥
+      no e = let z : _≡_ {A = ℕ} 0 1 = cc in omega arith
+
+      go : (a : Bool) → eqb (length s) 0 ≡ a → (b : Bool) → ltb 262144 (length s) ≡ b → (d : Bool) → ltb (length s) 5 ≡ d →
+          (v : Bool) → eqb (byteAt s 0) 1 ≡ v → (n : Bool) → ltb 256 (u32At s 1) ≡ n → PlainRules s (u32At s 1) 5
+      go true ea b eb d ed v ev n en =
+          let z : length s ≡ 0 = eqb-true _ _ ea in
+          rw (u32-at-out s 1 (omega arith)) tt
+      go false ea true eb d ed v ev n en = absurd (no (standing-long s (ltb-true _ _ eb)))
+      go false ea false eb true ed v ev n en = absurd (no (standing-short s (ltb-false _ _ eb) (eqb-false _ _ ea) (ltb-true _ _ ed)))
+      go false ea false eb false ed false ev n en =
+          absurd (no (standing-other s (ltb-false _ _ eb) (ltb-false _ _ ed) (eqb-false _ _ ev)))
+      go false ea false eb false ed true ev true en =
+          absurd (no (standing-many s (ltb-false _ _ eb) (ltb-false _ _ ed) (eqb-true _ _ ev) (ltb-true _ _ en)))
+      go false ea false eb false ed true ev false en =
+          let f = standing-rules s (ltb-false _ _ eb) (ltb-false _ _ ed) (eqb-true _ _ ev) (ltb-false _ _ en) in
+          let g = sound-standing (rulesShaped s (u32At s 1) 5) (rulesUnread s (u32At s 1) 5) (sym f ∙ sound) in
+          walked-plain s (u32At s 1) 5 (g .0) (g .1)
+
+-- ---- the rules that are read
+
+plain-count : (s : List ℕ) (n at : ℕ) → PlainRules s n at → length (rulesAt s n at) ≡ n
+unfolding rulesAt PlainRules
+plain-count s zero at h = refl
+plain-count s (suc n) at h = rw (ne-eqb (ruleAt s at .next) 0 (h .0 .there)) (ap suc (plain-count s n (ruleAt s at .next) (h .1)))
+
+plain-found : (s : List ℕ) (n at : ℕ) → PlainRules s n at → foundAt s n at ≡ rulesAt s n at
+unfolding foundAt rulesAt PlainRules
+plain-found s zero at h = refl
+plain-found s (suc n) at h =
+    let e = step-same s at (h .0 .there) in
+    rw (e .0, e .1, ne-eqb (ruleAt s at .next) 0 (h .0 .there))
+    (ap (λ (rs : List Lists). listsOf s (ruleAt s at) ∷ rs) (plain-found s n (ruleAt s at .next) (h .1)))
+
+-- an empty policy's heading counts no rules either
+rules-are : (s : List ℕ) → rulesOf s ≡ rulesAt s (u32At s 1) 5
+unfolding rulesOf rulesAt
+rules-are s = go (eqb (length s) 0) refl
+  where
+    go : (b : Bool) → eqb (length s) 0 ≡ b → cond b [] (rulesAt s (u32At s 1) 5) ≡ rulesAt s (u32At s 1) 5
+    go true e = let z : length s ≡ 0 = eqb-true _ _ e in rw (u32-at-out s 1 (omega arith))
+    go false e = refl
+
+module _ (s : List ℕ) (sound : standingOf s ≡ Sound) where
+  pub sound-count : length (rulesOf s) ≡ u32At s 1
+  sound-count = ap length (rules-are s) ∙ plain-count s (u32At s 1) 5 (sound-rules s sound)
+
+  pub sound-found : foundOf s ≡ rulesOf s
+  sound-found = plain-found s (u32At s 1) 5 (sound-rules s sound) ∙ sym (rules-are s)

@@ -1,0 +1,157 @@
+-- What the rules of a policy come to. In order: rules after rules (ruled-append); bit by bit, what is left (left-bit, left-bit-all) and where staging
+-- differs (differ-bit); one rule more never adds a bit (ruled-within); masks of 32 bits (ruled-left-lt, ruled-differ-lt); a table that keeps every
+-- result keeps what the rules leave (ruled-kept), and of an accepted policy so is what the code finds (ruled-found). Assumes nothing.
+use Prim.Native.Nat.{ℕ, _^_, _<_, _≤_}
+use mathlib.Core.Path.{_≡_, refl, sym, ap, ap₂, _∙_}
+use mathlib.Core.List.{List, [], _∷_, _++_}
+use mathlib.Core.Bool.{Bool, true, false, cond, not, xor, _&&_, _||_}
+use native.Mathlib.Omega.{arith}
+use lib.Bits as B
+use Rattle.base.specs.Bits.{and, or, differ, flip, bit, Within}
+use Rattle.base.proofs.BitLaws as base
+use Rattle.lists.specs.Acl.{Entry}
+use Rattle.tokens.specs.Crowd.{Member}
+use Rattle.passes.specs.Confinement.{everything}
+use Rattle.passes.specs.Marks.{kept}
+use Rattle.passes.specs.declared.matching.Hits.{Hits}
+use Rattle.policy.specs.Policy.{standingOf}
+use Rattle.policy.specs.Rules.{Lists, rulesOf, resultOf, ruled, judgedBy, ruledFrom, ruledBy, everyRule, someStage}
+use Rattle.policy.specs.Found.{foundOf, keptLists, keptRules}
+use Rattle.policy.specs.declared.rules.Ruled.{Ruled}
+use Rattle.policy.specs.declared.shape.Standing.the-variants.{Sound}
+use Rattle.policy.proofs.PolicyLaws.{sound-found}
+
+-- ---- tests
+
+and-true : (b : Bool) → b ≡ (b && true)
+and-true true = refl
+and-true false = refl
+
+and-assoc : (a b c : Bool) → ((a && b) && c) ≡ (a && (b && c))
+and-assoc true b c = refl
+and-assoc false b c = refl
+
+or-false : (b : Bool) → b ≡ (b || false)
+or-false true = refl
+or-false false = refl
+
+or-assoc : (a b c : Bool) → ((a || b) || c) ≡ (a || (b || c))
+or-assoc true b c = refl
+or-assoc false b c = refl
+
+-- a test that may be left out holds no less often without
+and-skip : (a b c : Bool) → (a && (b && c)) ≡ true → (a && c) ≡ true
+and-skip true true c e = e
+and-skip true false c e = let z : _≡_ {A = ℕ} 0 1 = cc in absurd (omega arith)
+and-skip false b c e = e
+
+module _ (kind : ℕ) (ms : List Member) (h : Hits) (p : ℕ) where
+  -- ---- rules after rules
+
+  pub ruled-append : (st : Ruled) (rs qs : List Lists) → ruledFrom kind ms h p st (rs ++ qs) ≡ ruledFrom kind ms h p (ruledFrom kind ms h p st rs) qs
+  unfolding ruledFrom
+  ruled-append st [] qs = refl
+  ruled-append st (r ∷ rs) qs = ruled-append (judgedBy kind ms h p st r) rs qs
+
+  -- ---- bit by bit
+
+  pub left-bit : (st : Ruled) (rs : List Lists) (i : ℕ) →
+      bit (ruledFrom kind ms h p st rs .left .0) i ≡ (bit (st .left .0) i && everyRule kind ms h p rs i)
+  unfolding ruledFrom everyRule judgedBy
+  left-bit st [] i = and-true (bit (st .left .0) i)
+  left-bit st (r ∷ rs) i =
+      left-bit (judgedBy kind ms h p st r) rs i
+      ∙ ap (λ (b : Bool). b && everyRule kind ms h p rs i) (base.and-bit (st .left .0) (resultOf kind ms h p (r .effective)) i)
+      ∙ and-assoc (bit (st .left .0) i) (bit (resultOf kind ms h p (r .effective)) i) (everyRule kind ms h p rs i)
+
+  pub left-bit-all : (rs : List Lists) (i : ℕ) → i < 32 → bit (ruledBy kind ms h p rs .left .0) i ≡ everyRule kind ms h p rs i
+  left-bit-all rs i l =
+      left-bit (ruled everything 0) rs i
+      ∙ ap (λ (b : Bool). b && everyRule kind ms h p rs i) (base.flip-bit 0 i (omega arith) l ∙ ap not (base.zero-bit i))
+
+  differ-step : (st : Ruled) (r : Lists) (i : ℕ) (q : Bool) →
+      (bit (judgedBy kind ms h p st r .differ .0) i || q)
+      ≡ (bit (st .differ .0) i
+      || cond (r .stages) (xor (bit (resultOf kind ms h p (r .effective)) i) (bit (resultOf kind ms h p (r .staged)) i) || q) q)
+  unfolding judgedBy
+  differ-step st r i q = go (r .stages)
+    where
+      e : ℕ
+      e = resultOf kind ms h p (r .effective)
+
+      t : ℕ
+      t = resultOf kind ms h p (r .staged)
+
+      go : (b : Bool) →
+          (bit (cond b (or (st .differ .0) (differ e t)) (st .differ .0)) i || q)
+          ≡ (bit (st .differ .0) i || cond b (xor (bit e i) (bit t i) || q) q)
+      go true =
+          ap (λ (b : Bool). b || q) (base.or-bit (st .differ .0) (differ e t) i ∙ ap (λ (b : Bool). bit (st .differ .0) i || b) (base.differ-bit e t i))
+          ∙ or-assoc (bit (st .differ .0) i) (xor (bit e i) (bit t i)) q
+      go false = refl
+
+  pub differ-bit : (st : Ruled) (rs : List Lists) (i : ℕ) →
+      bit (ruledFrom kind ms h p st rs .differ .0) i ≡ (bit (st .differ .0) i || someStage kind ms h p rs i)
+  unfolding ruledFrom someStage
+  differ-bit st [] i = or-false (bit (st .differ .0) i)
+  differ-bit st (r ∷ rs) i = differ-bit (judgedBy kind ms h p st r) rs i ∙ differ-step st r i (someStage kind ms h p rs i)
+
+  -- ---- one rule more never adds a bit
+
+  pub ruled-within : (st : Ruled) (rs : List Lists) (r : Lists) (qs : List Lists) →
+      Within (ruledFrom kind ms h p st (rs ++ r ∷ qs) .left .0) (ruledFrom kind ms h p st (rs ++ qs) .left .0)
+  unfolding Within everyRule
+  ruled-within st rs r qs i e =
+      let before = ruledFrom kind ms h p st rs in
+      let d : (bit (before .left .0) i && everyRule kind ms h p (r ∷ qs) i) ≡ true =
+      sym (left-bit before (r ∷ qs) i)
+      ∙ sym (ap (λ (x : Ruled). bit (x .left .0) i) (ruled-append st rs (r ∷ qs)))
+      ∙ e in
+      ap (λ (x : Ruled). bit (x .left .0) i) (ruled-append st rs qs)
+      ∙ left-bit before qs i
+      ∙ and-skip (bit (before .left .0) i) (bit (resultOf kind ms h p (r .effective)) i) (everyRule kind ms h p qs i) d
+
+  -- ---- masks of 32 bits
+
+  left-le : (st : Ruled) (rs : List Lists) → ruledFrom kind ms h p st rs .left .0 ≤ st .left .0
+  unfolding ruledFrom judgedBy
+  left-le st [] = omega arith
+  left-le st (r ∷ rs) =
+      omega (arith, left-le (judgedBy kind ms h p st r) rs, B.and-le-l (st .left .0) (resultOf kind ms h p (r .effective)))
+
+  pub ruled-left-lt : (rs : List Lists) → ruledBy kind ms h p rs .left .0 < 2 ^ 32
+  ruled-left-lt rs = omega (arith, left-le (ruled everything 0) rs)
+
+  pub ruled-differ-lt : ((es : List Entry) → resultOf kind ms h p es < 2 ^ 32) → (st : Ruled) (rs : List Lists) → st .differ .0 < 2 ^ 32 →
+      ruledFrom kind ms h p st rs .differ .0 < 2 ^ 32
+  unfolding ruledFrom judgedBy
+  ruled-differ-lt f st [] l = l
+  ruled-differ-lt f st (r ∷ rs) l = ruled-differ-lt f (judgedBy kind ms h p st r) rs (go (r .stages))
+    where
+      e : ℕ
+      e = resultOf kind ms h p (r .effective)
+
+      t : ℕ
+      t = resultOf kind ms h p (r .staged)
+
+      go : (b : Bool) → cond b (or (st .differ .0) (differ e t)) (st .differ .0) < 2 ^ 32
+      go true = B.or-lt 32 (st .differ .0) (differ e t) l (B.xor-lt 32 e t (f (r .effective)) (f (r .staged)))
+      go false = l
+
+  -- ---- a table that keeps every result
+
+  module _ (table : List ℕ) (right : (es : List Entry) → resultOf kind ms h p (kept table es) ≡ resultOf kind ms h p es) where
+    pub judged-kept : (st : Ruled) (r : Lists) → judgedBy kind ms h p st (keptLists table r) ≡ judgedBy kind ms h p st r
+    unfolding judgedBy
+    judged-kept st r = rw (right (r .effective), right (r .staged))
+
+    pub ruled-kept : (st : Ruled) (rs : List Lists) → ruledFrom kind ms h p st (keptRules table rs) ≡ ruledFrom kind ms h p st rs
+    unfolding ruledFrom keptRules
+    ruled-kept st [] = refl
+    ruled-kept st (r ∷ rs) =
+        ap (λ (x : Ruled). ruledFrom kind ms h p x (keptRules table rs)) (judged-kept st r)
+        ∙ ruled-kept (judgedBy kind ms h p st r) rs
+
+    -- what the code finds of an accepted policy
+    pub ruled-found : (s : List ℕ) → standingOf s ≡ Sound → ruledBy kind ms h p (keptRules table (foundOf s)) ≡ ruledBy kind ms h p (rulesOf s)
+    ruled-found s sound = ruled-kept (ruled everything 0) (foundOf s) ∙ ap (ruledBy kind ms h p) (sound-found s sound)

@@ -1,0 +1,72 @@
+-- What the rules of a policy leave, by each step of the code. For the functions of `rules`.
+-- In order: a rule by its sections (step-read), one result (result-is), one rule more (judged-..), the walk over all rules (Left, left-..).
+-- Not here: what all rules come to, RulesLaws. Assumes nothing.
+use Prim.Native.Nat.{ℕ, zero, suc, _+_, _-_, _<_, _≤_}
+use mathlib.Core.Path.{_≡_, refl, sym, ap, _∙_}
+use mathlib.Core.List.{List, [], _∷_}
+use mathlib.Core.Bool.{Bool, true, false, cond}
+use native.Mathlib.Omega.{arith}
+use lib.Dec.{eqb}
+use borrow.Author.Tests.{eq-eqb, ne-eqb}
+use Rattle.base.specs.Bits.{and, or, differ}
+use Rattle.lists.specs.Acl.{Entry}
+use Rattle.tokens.specs.Crowd.{Member}
+use Rattle.passes.specs.NormalEvaluation.{normalOf}
+use Rattle.passes.specs.OneWalk.{walkedOf, normalBy}
+use Rattle.passes.specs.declared.matching.Hits.{Hits}
+use Rattle.passes.specs.declared.walk.Walked.{Walked}
+use Rattle.policy.specs.Policy.{sectionAt}
+use Rattle.policy.specs.Rules.{Lists, listsOf, resultOf, ruled, judgedBy, ruledFrom}
+use Rattle.policy.specs.Found.{stepAt, foundAt, keptLists, keptRules}
+use Rattle.policy.specs.declared.shape.Section.{Section}
+use Rattle.policy.specs.declared.shape.Rule.{Rule}
+use Rattle.policy.specs.declared.rules.Ruled.{Ruled}
+
+-- a rule, from its sections as the code reads them
+pub step-read : (s : List ℕ) (at : ℕ) (applies dacl sacl staged last : Section) → applies ≡ sectionAt s at →
+    dacl ≡ sectionAt s (applies .to) → sacl ≡ sectionAt s (dacl .to) → staged ≡ sectionAt s (sacl .to) → last ≡ sectionAt s (staged .to) →
+    _≡_ {A = Rule} (record { next = last .to; unread = false; effective = dacl; staged = staged }) (stepAt s at)
+unfolding stepAt
+step-read s at applies dacl sacl staged last a d x t y = rw (y, t, x, d, a)
+
+module _ (kind : ℕ) (ms : List Member) (h : Hits) (p : ℕ) where
+  -- one result, from the walk over its list
+  pub result-is : (es : List Entry) (w : Walked) (x : ℕ) → w ≡ walkedOf kind ms h es → x ≡ normalBy kind true w h p →
+      x ≡ resultOf kind ms h p es
+  unfolding normalBy normalOf
+  result-is es w x e f = f ∙ rw e
+
+  -- one rule more
+  module _ (st : Ruled) (r : Lists) (e : ℕ) (effective : e ≡ resultOf kind ms h p (r .effective)) where
+    pub judged-plain : r .stages ≡ false → ruled (and (st .left .0) e) (st .differ .0) ≡ judgedBy kind ms h p st r
+    unfolding judgedBy
+    judged-plain t = rw (t, effective)
+
+    pub judged-staged : (q : ℕ) → q ≡ resultOf kind ms h p (r .staged) → r .stages ≡ true →
+        ruled (and (st .left .0) e) (or (st .differ .0) (differ e q)) ≡ judgedBy kind ms h p st r
+    unfolding judgedBy
+    judged-staged q staged t = rw (t, effective, staged)
+
+  -- ---- the walk over all rules
+
+  module _ (table s : List ℕ) where
+    -- what m rules from a place come to, after those before
+    abbrev pub Left : Ruled → ℕ → ℕ → Ruled
+    Left st m at = ruledFrom kind ms h p st (keptRules table (foundAt s m at))
+
+    module _ (st : Ruled) (m k at : ℕ) where
+      pub left-end : m ≤ k → Left st (m - k) at ≡ st
+      unfolding foundAt keptRules ruledFrom
+      left-end l = let z : m - k ≡ 0 = omega arith in rw z
+
+      pub left-stop : (r : Rule) → k < m → r ≡ stepAt s at → r .next ≡ 0 → Left st (m - k) at ≡ st
+      unfolding foundAt keptRules ruledFrom
+      left-stop r l e f = let n : m - k ≡ suc (m - (k + 1)) = omega arith in rw (n, ← e, eq-eqb (r .next) 0 f)
+
+      -- one rule more, as the code reads and judges it
+      pub left-more : (r : Rule) (next : Ruled) → k < m → r ≡ stepAt s at → (r .next ≡ 0 → ⊥) →
+          next ≡ judgedBy kind ms h p st (keptLists table (listsOf s r)) → Left st (m - k) at ≡ Left next (m - (k + 1)) (r .next)
+      unfolding foundAt keptRules ruledFrom
+      left-more r next l e f g =
+          let n : m - k ≡ suc (m - (k + 1)) = omega arith in
+          rw (n, ← e, ne-eqb (r .next) 0 f, g)

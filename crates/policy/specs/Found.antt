@@ -1,0 +1,37 @@
+-- How the code goes about it: a policy whose shape is judged already is walked once more, by the lengths of its sections alone. Nothing here decides
+-- an answer; RulesLaws shows that an accepted policy's rules are found so, and that a right table changes no result.
+use Prim.Native.Nat.{ℕ, zero, suc}
+use mathlib.Core.List.{List, [], _∷_}
+use mathlib.Core.Bool.{Bool, true, false, cond}
+use lib.Dec.{eqb}
+use Rattle.base.specs.Bytes.{u32At}
+use Rattle.passes.specs.Marks.{kept}
+use Rattle.policy.specs.Policy.{sectionAt}
+use Rattle.policy.specs.Rules.{Lists, listsOf}
+use Rattle.policy.specs.declared.shape.Rule.{Rule}
+
+-- the five sections from a place, their lists not scanned
+unfoldable pub stepAt : List ℕ → ℕ → Rule
+stepAt s at =
+    let applies = sectionAt s at in
+    let dacl = sectionAt s (applies .to) in
+    let sacl = sectionAt s (dacl .to) in
+    let staged = sectionAt s (sacl .to) in
+    record { next = sectionAt s (staged .to) .to; unread = false; effective = dacl; staged = staged }
+
+-- the n rules from a place; they stop where a section does not fit
+unfoldable pub foundAt : List ℕ → ℕ → ℕ → List Lists
+foundAt s zero at = []
+foundAt s (suc n) at = let r = stepAt s at in let q = listsOf s r ∷ foundAt s n (r .next) in cond (eqb (r .next) 0) [] q
+
+-- an empty policy reads as one of no rules
+abbrev pub foundOf : List ℕ → List Lists
+foundOf s = foundAt s (u32At s 1) 5
+
+-- what is left of a rule's lists by the table that dismisses strangers
+abbrev pub keptLists : List ℕ → Lists → Lists
+keptLists table r = record { effective = kept table (r .effective); stages = r .stages; staged = kept table (r .staged) }
+
+unfoldable pub keptRules : List ℕ → List Lists → List Lists
+keptRules table [] = []
+keptRules table (r ∷ rs) = keptLists table r ∷ keptRules table rs

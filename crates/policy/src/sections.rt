@@ -1,0 +1,105 @@
+// The sections of a policy and the lists in them, at places of lent bytes.
+ghost use mathlib.Core.Path.{_≡_};
+ghost use mathlib.Core.Bool.{true, cond};
+ghost use lib.Dec.{eqb};
+ghost use Rattle.lists.specs.declared.acl.Scan.the-variants.{Broken};
+ghost use Rattle.policy.specs.Policy.{section, sectionAt, bytesOf, Lies, aclSection, maybeAcl};
+ghost use Rattle.policy.specs.Policy.{broken, alien};
+use crate::shape::Section;
+use lists::Scan;
+
+// No section.
+fn nowhere() -> Section
+    ensures { λ r. ⌜ r ≡ section 0 0 ⌝ }
+{
+    Section { from: 0, to: 0 }
+}
+
+// The section whose length stands at `at`.
+pub fn section_at(s: &[u8], at: usize) -> Section
+    ensures { λ r. ⌜ r ≡ sectionAt (now (s .entry)) at ⌝ }
+    ensures { λ r. ⌜ Lies (now (s .entry)) r ⌝ }
+{
+    if s.len() < 4 {
+        return nowhere();
+    }
+    if s.len() - 4 < at {
+        return nowhere();
+    }
+    let n = base::u32_at(s, at) as usize;
+    let from = at + 4;
+    if s.len() - from < n {
+        return nowhere();
+    }
+    Section { from, to: from + n }
+}
+
+// What the entries of an ACL section are. "An ACL section's length equals its ACL's size."
+fn acl_section(l: &[u8], deep: bool) -> Scan
+    ensures { λ r. ⌜ r ≡ aclSection deep (now (l .entry)) ⌝ }
+{
+    let e = lists::acl_end(l, 0);
+    if e == 0 {
+        return Scan::Broken;
+    }
+    if e != l.len() {
+        return Scan::Broken;
+    }
+    lists::scan_entries(l, deep)
+}
+
+// The same of a section that may be empty.
+fn maybe_acl(l: &[u8], deep: bool) -> Scan
+    ensures { λ r. ⌜ r ≡ maybeAcl deep (now (l .entry)) ⌝ }
+{
+    if l.len() == 0 {
+        return Scan::Plain;
+    }
+    acl_section(l, deep)
+}
+
+// What a section at its place holds: a list. Broken where the section does not fit.
+pub fn list_in(s: &[u8], x: Section) -> Scan
+    requires { ⌜ Lies (now s) x ⌝ }
+    ensures { λ r. ⌜ r ≡ cond (eqb (x .to) 0) Broken (aclSection true (bytesOf (now (s .entry)) x)) ⌝ }
+{
+    let from = x.from;
+    let to = x.to;
+    if to == 0 {
+        return Scan::Broken;
+    }
+    acl_section(&s[from..to], true)
+}
+
+// What a section at its place holds: a list, or nothing. Broken where the section does not fit.
+pub fn maybe_in(s: &[u8], x: Section, deep: bool) -> Scan
+    requires { ⌜ Lies (now s) x ⌝ }
+    ensures { λ r. ⌜ r ≡ cond (eqb (x .to) 0) Broken (maybeAcl deep (bytesOf (now (s .entry)) x)) ⌝ }
+{
+    let from = x.from;
+    let to = x.to;
+    if to == 0 {
+        return Scan::Broken;
+    }
+    maybe_acl(&s[from..to], deep)
+}
+
+pub fn is_broken(x: Scan) -> bool
+    ensures { λ r. ⌜ r ≡ broken x ⌝ }
+{
+    match x {
+        Scan::Broken => true,
+        Scan::Foreign => false,
+        Scan::Plain => false,
+    }
+}
+
+pub fn is_alien(x: Scan) -> bool
+    ensures { λ r. ⌜ r ≡ alien x ⌝ }
+{
+    match x {
+        Scan::Broken => false,
+        Scan::Foreign => true,
+        Scan::Plain => false,
+    }
+}

@@ -1,0 +1,2 @@
+-- The front page, and nothing else.
+pub mod Promises

@@ -1,0 +1,1 @@
+// The front page: no code, only the promises, in proofs/Promises.antt.

@@ -1,0 +1,105 @@
+use Prim.Native.Nat.{_≤_}
+use mathlib.Core.Path.{_≡_, refl, sym, _∙_}
+use native.Mathlib.Omega.{arith}
+use borrow.Author.Needs.{needs}
+use lib.ListN.{length}
+use Rattle.tokens.specs.Fields.{many, groupAt}
+use Rattle.tokens.specs.FlatListing.{flatReader}
+use Rattle.tokens.specs.TokenRules.{virtualGroup}
+use Rattle.tokens.specs.Judging.{told}
+use Rattle.tokens.proofs.JudgeLaws.{identity-after, groupsOn, groups-none, groups-stop, groups-cut, groups-step}
+use Rattle.tokens.proofs.judge.judge_groups.Statement.{statement}
+use Rattle.tokens.proofs.judge.judge_groups.Tie as tie
+use Rattle.tokens.proofs.judge.judge_groups.Reads as reads
+use Rattle.tokens.proofs.judge.judge_groups.Lts as lts
+use Rattle.lists.proofs.sid_end.Reads as sid-end-reads
+use Rattle.tokens.proofs.judge.either.Reads as either-reads
+use Rattle.tokens.proofs.judge.is_virtual.Reads as is-virtual-reads
+
+abbrev Inv-loop : tie.InvT-loop
+Inv-loop s at n from₀ more₀ breaks₀ from more breaks =
+    (from ≤ length s)
+    × (told virtualGroup (many (groupAt flatReader) n s at) ≡ told (groupsOn breaks) (many (groupAt flatReader) more s from))
+
+abbrev μ-loop : tie.MeasureT-loop
+μ-loop s at n from₀ more₀ breaks₀ from more breaks = more
+
+-- src/judge.rt:95:5
+loop-holds : tie.Need-loop-holds Inv-loop μ-loop
+loop-holds c = (c .before .pre, refl)
+
+-- src/judge.rt:96:13
+sid-end-requires : tie.Need-sid-end-requires Inv-loop μ-loop
+sid-end-requires c κs = search needs
+
+-- src/judge.rt:98:13
+returns : tie.Need-returns Inv-loop μ-loop
+returns c =
+    let i = c .before .before .before .loop .inv in
+    let e = c .before .sid-end in
+    (sym (i .1 ∙ groups-stop _ _ _ (c .before .before .before .loop .breaks) (c .before .before .loop-test .taken) (sym (e .ensures .0) ∙ c .if1 .taken)), omega arith)
+
+-- src/judge.rt:100:12
+sub-if2 : tie.Need-sub-if2 Inv-loop μ-loop
+sub-if2 c = search needs
+
+-- src/judge.rt:101:13
+returns-2 : tie.Need-returns-2 Inv-loop μ-loop
+returns-2 c =
+    let i = c .before .before .before .before .loop .inv in
+    let e = c .before .before .sid-end in
+    (sym (i .1 ∙ groups-cut _ _ _ (c .before .before .before .before .loop .breaks) (c .before .before .before .loop-test .taken) (e .result) (e .ensures .0) (c .before .if1 .left) (omega arith)), omega arith)
+
+-- src/judge.rt:103:33
+is-virtual-requires : tie.Need-is-virtual-requires Inv-loop μ-loop
+is-virtual-requires c κs =
+    let e = c .before .before .sid-end in
+    let a = identity-after _ _ (e .result) (e .ensures .0) (c .before .if1 .left) in
+    (omega (arith, a), omega arith)
+
+-- src/judge.rt:103:9
+either-requires : tie.Need-either-requires Inv-loop μ-loop
+either-requires c κs = search needs
+
+-- src/judge.rt:104:16
+add-from : tie.Need-add-from Inv-loop μ-loop
+add-from c = search needs
+
+-- src/judge.rt:105:9
+sub-more : tie.Need-sub-more Inv-loop μ-loop
+sub-more c = search needs
+
+-- src/judge.rt:95:5
+loop-less : tie.Need-loop-less Inv-loop μ-loop
+loop-less c = search needs
+
+-- src/judge.rt:95:5
+loop-again : tie.Need-loop-again Inv-loop μ-loop
+loop-again c =
+    let i = c .before .before .before .before .before .before .loop .inv in
+    let e = c .before .before .before .before .sid-end in
+    let d = groups-step (c .before .before .before .before .before .before .before .before .args .s .now) (c .before .before .before .before .before .before .loop .from) (c .before .before .before .before .before .before .loop .more) (c .before .before .before .before .before .before .loop .breaks) (c .before .before .before .before .before .loop-test .taken) (e .result) (e .ensures .0) (c .before .before .before .if1 .left) (omega arith) in
+    (omega arith, i .1 ∙ d ∙ rw (c .either .ensures, c .before .is-virtual .ensures))
+
+-- src/judge.rt:87:1
+returns-3 : tie.Need-returns-3 Inv-loop μ-loop
+returns-3 c = (sym (c .before .loop .inv .1 ∙ groups-none _ _ _ (c .before .loop .breaks) (omega arith)), c .before .loop .inv .0)
+
+pub judge-groups-spec : {M : Type 1} → statement M
+judge-groups-spec =
+    tie.close
+    (tie.spec
+    Inv-loop
+    μ-loop
+    loop-holds
+    sid-end-requires
+    returns
+    sub-if2
+    returns-2
+    is-virtual-requires
+    either-requires
+    add-from
+    sub-more
+    loop-less
+    loop-again
+    returns-3)

@@ -1,0 +1,28 @@
+use mathlib.Core.Path.{_≡_, refl, sym, _∙_}
+use Rattle.tokens.proofs.JudgeLaws.{rest-free, rest-confined}
+use borrow.Author.Needs.{needs}
+use Rattle.tokens.proofs.judge.judge_rest.Statement.{statement}
+use Rattle.tokens.proofs.judge.judge_rest.Tie as tie
+use Rattle.tokens.proofs.judge.judge_rest.Reads as reads
+use Rattle.tokens.proofs.judge.judge_rest.Lts as lts
+use Rattle.tokens.proofs.judge.judge_confinement.Reads as judge-confinement-reads
+
+-- src/judge.rt:183:9
+returns : tie.Need-returns
+returns c =
+    let a = c .before .before .args in
+    (sym (rest-free (a .flags) (a .s .now) (a .at) (c .if1 .taken)), c .before .before .pre)
+
+-- src/judge.rt:189:5
+judge-confinement-requires : tie.Need-judge-confinement-requires
+judge-confinement-requires c κs = search needs
+
+-- src/judge.rt:177:1
+returns-2 : tie.Need-returns-2
+returns-2 c =
+    let w = c .judge-confinement in
+    let a = c .before .before .before .args in
+    (w .ensures .0 ∙ sym (rest-confined (a .flags) (a .s .now) (a .at) (c .before .if1 .left)), w .ensures .1)
+
+pub judge-rest-spec : {M : Type 1} → statement M
+judge-rest-spec = tie.close (tie.spec returns judge-confinement-requires returns-2)

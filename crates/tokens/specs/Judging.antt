@@ -1,0 +1,46 @@
+-- What the judge of a flat listing answers, and what it keeps on its walk. `judgedOf` is the answer; the rest is for the contracts of its parts.
+use Prim.Native.Nat.{ℕ}
+use mathlib.Core.List.{List}
+use mathlib.Core.Bool.{Bool, cond, not, _||_}
+use Rattle.base.specs.Bytes.{Read, bind}
+use Rattle.base.specs.Bytes.Read.{none, some}
+use Rattle.tokens.specs.Token.{Confined, Token, confined, exempt}
+use Rattle.tokens.specs.Crowd.{confinedPlace}
+use Rattle.tokens.specs.TokenRules.{virtual, virtualIn, lists, allRestricted, keeps}
+use Rattle.tokens.specs.declared.judge.Judged.{Judged}
+use Rattle.tokens.specs.declared.judge.Walk.{Walk}
+use Rattle.tokens.specs.declared.judge.Marks.{Marks}
+
+-- 3 where the listing is misshapen, 4 where its token breaks a token rule, else 0 and where the confinement identity stands
+unfoldable pub judgedOf : Read Token → Judged
+judgedOf none = record { status = 3; «confined_at» = 0 }
+judgedOf (some t end) = cond (keeps t) (record { status = 0; «confined_at» = confinedPlace t }) (record { status = 4; «confined_at» = 0 })
+
+-- ---- what the walk keeps
+
+-- of what is read
+abbrev pub told : {A B : Type 0} → (A → B) → Read A → Read B
+told f r = bind r (λ a end. some (f a) end)
+
+-- the same as the code answers it
+abbrev pub walked : Walk → Read Bool
+walked r = cond (r .ok) (some (r .breaks) (r .next)) none
+
+-- of the capabilities: whether a virtual identity stands among them, and whether S-1-15-2-2 does
+pub record Seen : Type 0 where
+  pub breaks : Bool
+  pub listed : Bool
+
+abbrev pub seenOf : List (List ℕ) → Seen
+seenOf ws = record { breaks = virtualIn ws; listed = lists allRestricted ws }
+
+abbrev pub marked : Marks → Read Seen
+marked r = cond (r .ok) (some (record { breaks = r .breaks; listed = r .listed }) (r .next)) none
+
+-- the token rules on a confinement
+abbrev pub confinementBreaks : Confined → Bool
+confinementBreaks c = virtual (c .identity) || virtualIn (c .capabilities) || not (lists allRestricted (c .capabilities))
+
+-- the token rules on what follows the groups: the confinement, or an exemption without one
+abbrev pub restBreaks : ℕ → Confined → Bool
+restBreaks flags c = cond (confined flags) (confinementBreaks c) (exempt flags)
