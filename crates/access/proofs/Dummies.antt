@@ -47,15 +47,15 @@ denied =
     []
 
 -- a rule that allows U the mask m, and no more
-abbrev ruleFor : ℕ → List ℕ → List ℕ
+abbrev pub ruleFor : ℕ → List ℕ → List ℕ
 ruleFor m rest =
     0 ∷ 0 ∷ 0 ∷ 0 ∷ 32 ∷ 0 ∷ 0 ∷ 0 ∷ 2 ∷ 0 ∷ 32 ∷ 0 ∷ 1 ∷ 0 ∷ 0 ∷ 0 ∷ 0 ∷ 0 ∷ 24 ∷ 0 ∷ m ∷ 0 ∷ 0 ∷ 0 ∷ 1 ∷ 2 ∷ 0 ∷ 0 ∷ 0 ∷ 0 ∷ 0 ∷ 5 ∷ 0 ∷ 0
     ∷ 0 ∷ 0 ∷ 7 ∷ 0 ∷ 0 ∷ 0 ∷ 0 ∷ 0 ∷ 0 ∷ 0 ∷ 0 ∷ 0 ∷ 0 ∷ 0 ∷ 0 ∷ 0 ∷ 0 ∷ 0 ∷ rest
 
-abbrev wide : Question
+abbrev pub wide : Question
 wide = asks 1 3 TU [] descriptor-3 (1 ∷ 1 ∷ 0 ∷ 0 ∷ 0 ∷ ruleFor 3 [])
 
-abbrev narrowed : Question
+abbrev pub narrowed : Question
 narrowed = asks 1 3 TU [] descriptor-3 (1 ∷ 2 ∷ 0 ∷ 0 ∷ 0 ∷ ruleFor 3 (ruleFor 1 []))
 
 -- by computation

@@ -1,6 +1,7 @@
 -- The status number is the lowest line of the table that holds. The index:
 -- status-is: the number given. accepted-when: 0 exactly where no line holds. status-le: a check gives no number above 10.
--- refused-nothing, refused-grants-nothing: a refusal has mask 0, allowed no, flag clear. granted-cases, granted-asked: no granted bit lies outside the bits asked.
+-- refused-nothing, refused-grants-nothing: a refusal has mask 0, allowed no, flag clear.
+-- granted-cases, granted-asked: no granted bit lies outside the bits asked.
 -- Not here: the numbers of descriptor and policy, NumbersLaws; question files, FileLaws. Assumes nothing.
 use Prim.Native.Nat.{ℕ, _≤_}
 use mathlib.Core.Path.{_≡_, refl, sym, _∙_}

@@ -5,11 +5,16 @@ pub mod Granted
 pub mod Status
 -- accepted questions, and the answer of the rules
 pub mod Accepted
--- the question file
-pub mod QuestionFile
 -- the table of status numbers, line by line
 pub mod Conditions
+-- the question file
+pub mod QuestionFile
 -- the bench cards as bytes
 pub mod Cards
 -- demand 3's words: strangers
 pub mod Strangers
+-- how the code goes about it: the masks from the bytes of a flat listing; numbers 3 to 10 and what is found, whatever the mask; where the parts of
+-- a question file stand
+pub mod Evaluating
+pub mod Findings
+pub mod Blobs

@@ -1,5 +1,10 @@
 // What is found for a kind, and the answer read off for a mask.
+ghost use mathlib.Core.Path.{_≡_};
+ghost use Rattle.access.specs.Granted.{allowedOf, answerOf};
+ghost use Rattle.access.specs.Status.{refused};
+ghost use Rattle.access.specs.Findings.{stopped};
 use lists::Rights;
+use passes::Tally;
 
 // The bits after normal evaluation, after confinement and after policy, and those on which a rule's
 // effective and staged results differ. It does not depend on the desired mask.
@@ -10,10 +15,71 @@ pub struct Found {
     pub differ: Rights,
 }
 
+// The page's status number (0, or 3 to 10), and what was found; all 0 on refusal.
+pub struct Findings {
+    pub status: u32,
+    pub found: Found,
+}
+
 // The page's status number, the granted mask, allowed yes or no, and the staging flag.
 pub struct Answer {
     pub status: u32,
     pub granted: Rights,
     pub allowed: bool,
     pub staged: bool,
+}
+
+// Findings that are refused with a number.
+pub fn stopped(status: u32) -> Findings
+    ensures { λ r. ⌜ r ≡ stopped status ⌝ }
+{
+    Findings {
+        status,
+        found: Found {
+            normal: Rights(Tally::NONE),
+            confined: Rights(Tally::NONE),
+            ruled: Rights(Tally::NONE),
+            differ: Rights(Tally::NONE),
+        },
+    }
+}
+
+// An answer that is refused with a number: "On refusal mask 0, allowed no, flag clear".
+pub fn refused(status: u32) -> Answer
+    ensures { λ r. ⌜ r ≡ refused status ⌝ }
+{
+    Answer {
+        status,
+        granted: Rights(Tally::NONE),
+        allowed: false,
+        staged: false,
+    }
+}
+
+// Whether every explicit bit is granted and, where the maximum was asked, any bit at all.
+fn is_allowed(kind: u32, mask: Rights, granted: Rights) -> bool
+    ensures { λ r. ⌜ r ≡ allowedOf kind (mask .0) (granted .0) ⌝ }
+{
+    let wanted = passes::explicit(kind, mask);
+    if granted.0 & wanted.0 != wanted.0 {
+        return false;
+    }
+    if mask.0 & Tally::MAXIMUM == 0 {
+        return true;
+    }
+    granted.0 != 0
+}
+
+// The answer for a mask, of a question that is not refused.
+pub fn read_off(kind: u32, mask: Rights, f: Found) -> Answer
+    ensures { λ r. ⌜ r ≡ answerOf kind (mask .0) f ⌝ }
+{
+    let asked = passes::asked(kind, mask);
+    let granted = Rights(asked.0 & f.ruled.0);
+    Answer {
+        status: 0,
+        granted,
+        allowed: is_allowed(kind, mask, granted),
+        staged: asked.0 & f.differ.0 != 0,
+    }
 }

@@ -1,5 +1,16 @@
-// The check.
+// The check, and the question file: the only door to both. What it relies on of identities, lists,
+// tokens, passes and policies is what those crates promise.
 mod answer;
+mod decide;
+mod evaluate;
+mod file;
+mod finding;
 
 pub use answer::Answer;
+pub use answer::Findings;
 pub use answer::Found;
+pub use answer::read_off;
+pub use decide::check;
+pub use evaluate::found_in;
+pub use file::question;
+pub use finding::findings;

@@ -1,9 +1,9 @@
 -- Bytes by place. A list of bytes is read from any place; what is not wholly there reads as 0, and every definition that cares asks first.
 use Prim.Native.Nat.{ℕ, zero, suc, _+_, _-_, _*_, _/_, _%_}
 use mathlib.Core.List.{List, [], _∷_, _++_}
-use mathlib.Core.Bool.{Bool, true, false, cond, _&&_}
+use mathlib.Core.Bool.{Bool, true, false, cond, not}
 use lib.ListN.{length, getD, take, drop}
-use lib.Dec.{leb, eqb}
+use lib.Dec.{ltb, leb, eqb}
 
 abbrev pub byteAt : List ℕ → ℕ → ℕ
 byteAt s at = getD s at 0
@@ -36,6 +36,12 @@ same [] [] = true
 same [] (y ∷ ys) = false
 same (x ∷ xs) [] = false
 same (x ∷ xs) (y ∷ ys) = let r = same xs ys in cond (eqb x y) r false
+
+-- the byte four places before the end, which tells most identities apart, differs
+unfoldable pub unlike : List ℕ → List ℕ → Bool
+unlike a b =
+    cond (ltb (length a) 4) false
+    (cond (ltb (length b) (length a)) false (not (eqb (byteAt a (length a - 4)) (byteAt b (length a - 4)))))
 
 -- the n lowest bytes of a number, lowest first, and highest first
 unfoldable pub little : ℕ → ℕ → List ℕ

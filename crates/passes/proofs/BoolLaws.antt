@@ -1,8 +1,8 @@
 -- Laws of tests that the library has not: a test turned over twice; a conjunction and a disjunction by their second half.
 -- Assumes nothing.
 use Prim.Native.Nat.{ℕ}
-use mathlib.Core.Path.{_≡_, refl}
 use mathlib.Core.Bool.{Bool, true, false, not, _&&_, _||_}
+use mathlib.Core.Path.{_≡_, refl}
 use native.Mathlib.Omega.{arith}
 
 pub not-not : (b : Bool) → b ≡ not (not b)

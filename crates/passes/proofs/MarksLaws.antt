@@ -1,42 +1,42 @@
--- The table of marks dismisses strangers only: an entry that it dismisses matches nobody and names no virtual identity, so that a walk over the
--- entries that it keeps answers as a walk over all. Last the laws that callers of `pass` cite.
+-- The table of marks dismisses strangers only: an entry that it dismisses matches nobody and names no virtual identity, so that a walk over
+-- the entries that it keeps answers as a walk over all. Last the laws that callers of `pass` cite.
 -- Assumes nothing.
-use Prim.Native.Nat.{ℕ, zero, suc, _-_, _%_, _<_, _≤_}
-use mathlib.Core.Path.{_≡_, refl, sym, ap, ap₂, subst, _∙_}
+use Prim.Native.Nat.{ℕ, zero, suc, _+_, _-_, _*_, _%_, _<_}
+use mathlib.Core.Bool.{Bool, true, false, cond, _&&_}
 use mathlib.Core.List.{List, [], _∷_}
-use mathlib.Core.Bool.{Bool, true, false, cond, _&&_, _||_}
-use native.Mathlib.Omega.{arith}
+use mathlib.Core.Path.{_≡_, refl, sym, ap, ap₂, _∙_}
 use native.Mathlib.Nat.{mod-lt}
-use borrow.Author.Tests.{eqb-true, eqb-false}
+use native.Mathlib.Omega.{arith}
+use borrow.Author.Tests.{eqb-true}
+use lib.Dec.{ltb, eqb}
 use lib.ListN.{length, getD, set, length-set}
 use lib.Seq.{getD-set-same}
-use lib.Dec.{ltb, eqb}
-use Rattle.base.specs.Bytes.{same, byteAt}
 use Rattle.base.proofs.BytesLaws.{same-eq}
-use Rattle.lists.specs.Sid.{ownerRights, principalSelf}
+use Rattle.base.specs.Bytes.{same, byteAt}
 use Rattle.lists.specs.Acl.{Entry}
+use Rattle.lists.specs.Sid.{ownerRights, principalSelf}
 use Rattle.tokens.specs.Crowd.{Member}
 use Rattle.tokens.specs.TokenRules.{virtual}
+use Rattle.passes.specs.Marks.{keyOf, unmarked, marked, marksOf, dismissed, kept}
+use Rattle.passes.specs.Matching.{among, matches}
+use Rattle.passes.specs.NormalEvaluation.{counts, namesOwner}
+use Rattle.passes.specs.OnePass.{emptied, skipped, allows, taken, run, passed}
+use Rattle.passes.specs.OneWalk.{walkedBy, walkedOf}
 use Rattle.passes.specs.declared.matching.Hits.{Hits}
 use Rattle.passes.specs.declared.tally.Tally.{Tally}
 use Rattle.passes.specs.declared.walk.Walked.{Walked}
-use Rattle.passes.specs.Matching.{among, matches}
-use Rattle.passes.specs.OnePass.{emptied, skipped, allows, taken, run, passed}
-use Rattle.passes.specs.NormalEvaluation.{counts, namesOwner}
-use Rattle.passes.specs.Marks.{keyOf, unmarked, marked, marksOf, dismissed, kept}
-use Rattle.passes.specs.OneWalk.{walkedBy, walkedFrom, walkedOf}
 use Rattle.passes.proofs.BoolLaws.{and-false, true-false}
 use Rattle.passes.proofs.MatchingLaws.{matches-among}
 
 -- ---- a mark stays
 
-pub key-lt : (w : List ℕ) → keyOf w < 256
+pub key-lt : (w : List ℕ) → keyOf w < 4096
 unfolding keyOf
 key-lt w = go (ltb (length w) 4)
   where
-    go : (b : Bool) → cond b 0 (byteAt w (length w - 4) % 256) < 256
+    go : (b : Bool) → cond b 0 ((byteAt w (length w - 4) + 256 * byteAt w (length w - 3)) % 4096) < 4096
     go true = omega arith
-    go false = mod-lt (byteAt w (length w - 4)) (omega arith)
+    go false = mod-lt (byteAt w (length w - 4) + 256 * byteAt w (length w - 3)) (omega arith)
 
 set-keeps : (t : List ℕ) (j k : ℕ) → getD t k 0 ≡ 1 → getD (set t j 1) k 0 ≡ 1
 set-keeps [] j k e = e
@@ -52,14 +52,16 @@ marked-keeps (m ∷ ms) t k e = marked-keeps ms (set t (keyOf (m .sid)) 1) k (se
 
 -- ---- who matches has a mark
 
-own-mark : (t w v : List ℕ) → length t ≡ 256 → same v w ≡ true → getD (set t (keyOf v) 1) (keyOf w) 0 ≡ 1
+own-mark : (t w v : List ℕ) → length t ≡ 4096 → same v w ≡ true → getD (set t (keyOf v) 1) (keyOf w) 0 ≡ 1
 own-mark t w v l e = rw (same-eq v w e) (getD-set-same t (keyOf w) 1 0 (omega (arith, key-lt w)))
 
-among-marked : (allow : Bool) (ms : List Member) (t w : List ℕ) → length t ≡ 256 → among allow ms w ≡ true → getD (marked t ms) (keyOf w) 0 ≡ 1
+among-marked : (allow : Bool) (ms : List Member) (t w : List ℕ) → length t ≡ 4096 → among allow ms w ≡ true →
+    getD (marked t ms) (keyOf w) 0 ≡ 1
 unfolding among marked
 among-marked allow [] t w l e = true-false (sym e)
 among-marked allow (m ∷ ms) t w l e =
-    go (among-marked allow ms (set t (keyOf (m .sid)) 1) w (length-set t (keyOf (m .sid)) 1 ∙ l)) (same (m .sid) w) refl (cond allow (m .allows) (m .denies)) e
+    go (among-marked allow ms (set t (keyOf (m .sid)) 1) w (length-set t (keyOf (m .sid)) 1 ∙ l)) (same (m .sid) w) refl
+    (cond allow (m .allows) (m .denies)) e
   where
     t2 : List ℕ
     t2 = set t (keyOf (m .sid)) 1
@@ -123,12 +125,17 @@ names-kept ms (x ∷ es) = go (names-kept ms es) (dismissed (marksOf ms) (x .sid
   where
     go : namesOwner (kept (marksOf ms) es) ≡ namesOwner es → (b : Bool) → dismissed (marksOf ms) (x .sid) ≡ b →
         namesOwner (cond b (kept (marksOf ms) es) (x ∷ kept (marksOf ms) es)) ≡ namesOwner (x ∷ es)
-    go on true d = on ∙ sym (ap (λ (b : Bool). cond (counts x && b) true (namesOwner es)) (dismissed-owner ms (x .sid) d) ∙ ap (λ (b : Bool). cond b true (namesOwner es)) (and-false (counts x)))
+    go on true d =
+        on
+        ∙ sym
+        (ap (λ (b : Bool). cond (counts x && b) true (namesOwner es)) (dismissed-owner ms (x .sid) d)
+        ∙ ap (λ (b : Bool). cond b true (namesOwner es)) (and-false (counts x)))
     go on false d = ap (λ (b : Bool). cond (counts x && same (x .sid) ownerRights) true b) on
 
 -- ---- what a caller of `pass` concludes, with a table that `marks` made of the same crowd
 
-pub walked-kept : (kind : ℕ) (ms : List Member) (h : Hits) (es : List Entry) → walkedOf kind ms h (kept (marksOf ms) es) ≡ walkedOf kind ms h es
+pub walked-kept : (kind : ℕ) (ms : List Member) (h : Hits) (es : List Entry) →
+    walkedOf kind ms h (kept (marksOf ms) es) ≡ walkedOf kind ms h es
 walked-kept kind ms h es =
     ap₂ walkedBy (run-kept kind ms h es emptied) (names-kept ms es)
 

@@ -2,20 +2,19 @@
 -- 0x02000000; the explicit bits are asked, and of a legal question nothing is asked but the kind's all bits and 0x01000000, which is asked
 -- only where it is named.
 -- Assumes nothing.
-use Prim.Native.Nat.{ℕ, zero, suc, _+_, _-_, _*_, _/_, _%_, _^_, _<_, _≤_}
-use mathlib.Core.Path.{_≡_, refl, sym, ap, ap₂, _∙_}
-use mathlib.Core.List.{List, [], _∷_}
+use Prim.Native.Nat.{ℕ, _^_, _<_, _≤_}
 use mathlib.Core.Bool.{Bool, true, false, cond, not, _&&_, _||_}
+use mathlib.Core.List.{[]}
+use mathlib.Core.Path.{_≡_, refl, sym, ap, _∙_}
 use native.Mathlib.Omega.{arith}
-use borrow.Author.Tests.{eqb-true, eqb-false}
 use lib.Bits as B
 use lib.Dec.{eqb}
 use lib.ListN.{getD}
-use Rattle.base.specs.Bits.{and, or, flip, has, covers, bit, Within}
-use Rattle.base.proofs.BitLaws.{and-bit, or-bit, flip-bit, zero-bit, high-bit}
-use Rattle.base.proofs.BitsLaws.{within-trans, and-within, and-within-l, and-within-r, or-within, or-within-l, or-within-r, covers-within, within-and}
-use Rattle.passes.proofs.BoolLaws.{true-false, and-false, or-false, or-true}
+use Rattle.base.proofs.BitLaws.{and-bit, or-bit, zero-bit, high-bit}
+use Rattle.base.proofs.BitsLaws.{and-within, and-within-r, or-within, or-within-l, or-within-r, covers-within, within-and}
+use Rattle.base.specs.Bits.{and, or, flip, has, bit, Within}
 use Rattle.passes.specs.KindsAndMasks.{table, right, allBits, mapped, entryMask, legal, explicit, asked, systemSecurity, maximum}
+use Rattle.passes.proofs.BoolLaws.{true-false, and-false, or-false, or-true}
 
 -- ---- what holds of both rows of the table holds of every kind
 
@@ -96,7 +95,8 @@ unfolding entryMask
 entry-mask-within kind m = and-within-r (mapped kind m) (allBits kind)
 
 pub entry-mask-lt : (kind m : ℕ) → entryMask kind m < 2 ^ 32
-entry-mask-lt kind m = let h = within-lt 21 (entryMask kind m) (allBits kind) (entry-mask-within kind m) (all-bits-lt kind) in omega (arith, h)
+entry-mask-lt kind m =
+    let h = within-lt 21 (entryMask kind m) (allBits kind) (entry-mask-within kind m) (all-bits-lt kind) in omega (arith, h)
 
 -- no generic bit, nor 0x01000000 (bit 24) nor 0x02000000 (bit 25)
 pub all-bits-high : (kind i : ℕ) → 21 ≤ i → bit (allBits kind) i ≡ false
@@ -115,7 +115,8 @@ mapped-bit : (kind m i : ℕ) → bit (mapped kind m) i ≡ ((bit m i && bit 0x0
 unfolding mapped
 mapped-bit kind m i = or-bit (and m 0x0FFFFFFF) (generic kind m) i ∙ ap (λ (b : Bool). b || bit (generic kind m) i) (and-bit m 0x0FFFFFFF i)
 
-explicit-bit : (kind m i : ℕ) → bit (explicit kind m) i ≡ (((bit m i && bit 0x0FFFFFFF i) || bit (generic kind m) i) && bit (flip maximum) i)
+explicit-bit : (kind m i : ℕ) →
+    bit (explicit kind m) i ≡ (((bit m i && bit 0x0FFFFFFF i) || bit (generic kind m) i) && bit (flip maximum) i)
 unfolding explicit
 explicit-bit kind m i = and-bit (mapped kind m) (flip maximum) i ∙ ap (λ (b : Bool). b && bit (flip maximum) i) (mapped-bit kind m i)
 
@@ -129,7 +130,8 @@ pub explicit-security : (kind m : ℕ) → bit (explicit kind m) 24 ≡ bit m 24
 unfolding bit
 explicit-security kind m =
     explicit-bit kind m 24
-    ∙ ap (λ (b : Bool). ((bit m 24 && true) || b) && true) (within-false (generic kind m) (allBits kind) 24 (generic-within kind m) (all-bits-high kind 24 (omega arith)))
+    ∙ ap (λ (b : Bool). ((bit m 24 && true) || b) && true)
+    (within-false (generic kind m) (allBits kind) 24 (generic-within kind m) (all-bits-high kind 24 (omega arith)))
     ∙ only (bit m 24)
   where
     only : (b : Bool) → (((b && true) || false) && true) ≡ b
@@ -138,7 +140,10 @@ explicit-security kind m =
 
 asked-high : (kind m i : ℕ) → 21 ≤ i → bit (asked kind m) i ≡ bit (explicit kind m) i
 unfolding asked
-asked-high kind m i h = or-bit (explicit kind m) _ i ∙ ap (λ (b : Bool). bit (explicit kind m) i || b) (go (has m maximum)) ∙ or-false (bit (explicit kind m) i)
+asked-high kind m i h =
+    or-bit (explicit kind m) _ i
+    ∙ ap (λ (b : Bool). bit (explicit kind m) i || b) (go (has m maximum))
+    ∙ or-false (bit (explicit kind m) i)
   where
     go : (b : Bool) → bit (cond b (allBits kind) 0) i ≡ false
     go true = all-bits-high kind i h
@@ -152,7 +157,9 @@ asked-security kind m = asked-high kind m 24 (omega arith) ∙ explicit-security
 
 -- a legal question asks for nothing but 0x01000000 and the kind's all bits
 special-bit : (i : ℕ) → bit systemSecurity i ≡ (bit 0xF3000000 i && (bit 0x0FFFFFFF i && bit (flip maximum) i))
-special-bit i = and-bit 0xF3000000 (and 0x0FFFFFFF (flip maximum)) i ∙ ap (λ (b : Bool). bit 0xF3000000 i && b) (and-bit 0x0FFFFFFF (flip maximum) i)
+special-bit i =
+    and-bit 0xF3000000 (and 0x0FFFFFFF (flip maximum)) i
+    ∙ ap (λ (b : Bool). bit 0xF3000000 i && b) (and-bit 0x0FFFFFFF (flip maximum) i)
 
 pub explicit-within : (kind m : ℕ) → legal kind m ≡ true → Within (explicit kind m) (or systemSecurity (allBits kind))
 unfolding Within legal
@@ -162,7 +169,8 @@ explicit-within kind m l i e =
     (λ p. sym (or-bit 0xF3000000 (allBits kind) i) ∙ covers-within (or 0xF3000000 (allBits kind)) m l i p)
     (generic-within kind m i) (sym (explicit-bit kind m i) ∙ e)
   where
-    go : (x f g n s a : Bool) → (x ≡ true → (s || a) ≡ true) → (g ≡ true → a ≡ true) → (((x && f) || g) && n) ≡ true → ((s && (f && n)) || a) ≡ true
+    go : (x f g n s a : Bool) → (x ≡ true → (s || a) ≡ true) → (g ≡ true → a ≡ true) → (((x && f) || g) && n) ≡ true →
+        ((s && (f && n)) || a) ≡ true
     go x f g n s true p q r = or-true (s && (f && n))
     go x f true n s false p q r = true-false (sym (q refl))
     go false f false n s false p q r = true-false (sym r)

@@ -1,20 +1,20 @@
 -- Which SIDs match: a virtual identity is answered by the hits, any other by the crowd; no owner or self that is itself virtual or empty
 -- stands for anybody.
 -- Assumes nothing.
-use Prim.Native.Nat.{ℕ, zero, suc}
-use mathlib.Core.Path.{_≡_, refl, sym, ap, _∙_}
-use mathlib.Core.List.{List, [], _∷_}
-use mathlib.Core.Bool.{Bool, true, false, cond, _&&_, _||_}
-use lib.ListN.{length}
-use lib.Dec.{eqb}
+use Prim.Native.Nat.{ℕ}
+use mathlib.Core.Bool.{Bool, true, false, cond, _||_}
+use mathlib.Core.List.{List}
+use mathlib.Core.Path.{_≡_, refl, sym}
 use borrow.Author.Tests.{eq-eqb}
+use lib.Dec.{eqb}
+use lib.ListN.{length}
 use Rattle.base.specs.Bytes.{same}
 use Rattle.lists.specs.Sid.{ownerRights, principalSelf}
 use Rattle.tokens.specs.Crowd.{Member}
 use Rattle.tokens.specs.TokenRules.{virtual}
-use Rattle.passes.specs.declared.matching.Hits.{Hits}
 use Rattle.passes.specs.Matching.{among, stands, side, matches}
 use Rattle.passes.specs.OneWalk.{answered}
+use Rattle.passes.specs.declared.matching.Hits.{Hits}
 use Rattle.passes.proofs.BoolLaws.{true-false}
 
 first-of : {A : Type 0} (p q : Bool) (a b c : A) → (p || q) ≡ true → cond p a (cond q b c) ≡ cond p a b
@@ -34,11 +34,13 @@ either false = refl
 module _ (allow : Bool) (ms : List Member) (w : List ℕ) where
   pub matches-virtual : (h : Hits) → virtual w ≡ true → matches allow ms h w ≡ answered allow h w
   unfolding matches
-  matches-virtual h v = first-of (same w ownerRights) (same w principalSelf) (side allow (h .owner)) (side allow (h .me)) (among allow ms w) v
+  matches-virtual h v = first-of (same w ownerRights) (same w principalSelf) (side allow (h .owner)) (side allow (h .me))
+      (among allow ms w) v
 
   pub matches-among : (h : Hits) → virtual w ≡ false → matches allow ms h w ≡ among allow ms w
   unfolding matches
-  matches-among h v = neither-of (same w ownerRights) (same w principalSelf) (side allow (h .owner)) (side allow (h .me)) (among allow ms w) v
+  matches-among h v = neither-of (same w ownerRights) (same w principalSelf) (side allow (h .owner)) (side allow (h .me))
+      (among allow ms w) v
 
   pub stands-virtual : virtual w ≡ true → stands allow ms w ≡ false
   unfolding stands

@@ -1,22 +1,22 @@
--- What a pass allows, bit by bit. In order: a pass allows nothing outside the kind's all bits, so no entry gives 0x01000000; and the tally that
--- the code carries has exactly the bits that the first deciding entry grants.
+-- What a pass allows, bit by bit. In order: a pass allows nothing outside the kind's all bits, so no entry gives 0x01000000; and the tally
+-- that the code carries has exactly the bits that the first deciding entry grants.
 -- Assumes nothing.
-use Prim.Native.Nat.{ℕ, zero, suc, _+_, _-_, _^_, _<_, _≤_}
-use mathlib.Core.Path.{_≡_, refl, sym, ap, ap₂, _∙_}
-use mathlib.Core.List.{List, [], _∷_}
+use Prim.Native.Nat.{ℕ, _^_, _<_}
 use mathlib.Core.Bool.{Bool, true, false, cond, not, _&&_, _||_}
+use mathlib.Core.List.{List, [], _∷_}
+use mathlib.Core.Path.{_≡_, refl, sym, _∙_}
 use native.Mathlib.Omega.{arith}
 use lib.Bits as B
-use Rattle.base.specs.Bits.{and, or, flip, bit, Within}
 use Rattle.base.proofs.BitLaws.{and-bit, or-bit, flip-bit, zero-bit}
 use Rattle.base.proofs.BitsLaws.{within-trans, and-within-l, or-within}
+use Rattle.base.specs.Bits.{and, or, flip, bit, Within}
 use Rattle.lists.specs.Acl.{Entry}
 use Rattle.tokens.specs.Crowd.{Member}
-use Rattle.passes.specs.declared.matching.Hits.{Hits}
-use Rattle.passes.specs.declared.tally.Tally.{Tally}
 use Rattle.passes.specs.KindsAndMasks.{allBits, entryMask}
 use Rattle.passes.specs.Matching.{matches}
 use Rattle.passes.specs.OnePass.{emptied, allowing, denying, skipped, allows, taken, run, passed, granted}
+use Rattle.passes.specs.declared.matching.Hits.{Hits}
+use Rattle.passes.specs.declared.tally.Tally.{Tally}
 use Rattle.passes.proofs.BoolLaws.{true-false}
 use Rattle.passes.proofs.MasksLaws.{all-bits-lt, all-bits-high, within-lt, within-false, entry-mask-within, entry-mask-lt}
 
@@ -34,11 +34,13 @@ module _ (kind : ℕ) (ms : List Member) (h : Hits) where
       go true hit allow = w
       go false true true =
           or-within (t .allowed .0) (and m (flip (t .decided .0))) (allBits kind) w
-          (within-trans (and m (flip (t .decided .0))) m (allBits kind) (and-within-l m (flip (t .decided .0))) (entry-mask-within kind (x .mask)))
+          (within-trans (and m (flip (t .decided .0))) m (allBits kind) (and-within-l m (flip (t .decided .0)))
+          (entry-mask-within kind (x .mask)))
       go false true false = w
       go false false allow = w
 
-  run-within : (es : List Entry) (t : Tally) → Within (t .allowed .0) (allBits kind) → Within (run kind ms h t es .allowed .0) (allBits kind)
+  run-within : (es : List Entry) (t : Tally) → Within (t .allowed .0) (allBits kind) →
+      Within (run kind ms h t es .allowed .0) (allBits kind)
   unfolding run
   run-within [] t w = w
   run-within (x ∷ es) t w = run-within es (taken kind ms h t x) (taken-within t x w)
@@ -120,11 +122,13 @@ module _ (i : ℕ) (small : i < 32) where
         go false true false = deny-bit t m f
         go false false allow = refl
 
-    run-bit : (es : List Entry) (t : Tally) → t .decided .0 < 2 ^ 32 → bit (run kind ms h t es .allowed .0) i ≡ comes t i (granted kind ms h es i)
+    run-bit : (es : List Entry) (t : Tally) → t .decided .0 < 2 ^ 32 →
+        bit (run kind ms h t es .allowed .0) i ≡ comes t i (granted kind ms h es i)
     unfolding run granted
     run-bit [] t k = none (bit (t .allowed .0) i) (bit (t .decided .0) i)
     run-bit (x ∷ es) t k = run-bit es (taken kind ms h t x) (step-fits t x k) ∙ step-bit t x (granted kind ms h es i) k
 
 -- the pass begins with the empty tally
-pub first-decides : (kind : ℕ) (ms : List Member) (h : Hits) (es : List Entry) (i : ℕ) → i < 32 → bit (passed kind ms h es) i ≡ granted kind ms h es i
+pub first-decides : (kind : ℕ) (ms : List Member) (h : Hits) (es : List Entry) (i : ℕ) → i < 32 →
+    bit (passed kind ms h es) i ≡ granted kind ms h es i
 first-decides kind ms h es i small = run-bit i small kind ms h es emptied (omega arith) ∙ rw (zero-bit i)

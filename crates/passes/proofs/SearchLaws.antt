@@ -1,17 +1,16 @@
 -- One turn of a walk through a crowd, seat by seat: of the search for a SID, and of the marking of a table.
 -- Assumes nothing.
-use Prim.Native.Nat.{ℕ, zero, suc}
-use mathlib.Core.Path.{_≡_, refl, sym, ap, _∙_}
-use mathlib.Core.List.{List, [], _∷_}
-use mathlib.Core.Bool.{Bool, true, false, cond}
-use borrow.Author.Tests.{eq-eqb, ne-eqb}
+use Prim.Native.Nat.{ℕ, suc}
+use mathlib.Core.Bool.{Bool, true, false}
+use mathlib.Core.List.{List}
+use mathlib.Core.Path.{_≡_}
+use borrow.Author.Tests.{ne-eqb}
 use lib.ListN.{set}
 use Rattle.base.specs.Bytes.{part}
-use Rattle.tokens.specs.Crowd.{Member, membersAt}
-use Rattle.passes.specs.declared.seats.Seat.{Seat}
-use Rattle.passes.specs.Matching.{among}
-use Rattle.passes.specs.Seats.{seatAt, seated, fromSeat, sits}
 use Rattle.passes.specs.Marks.{keyOf, marked}
+use Rattle.passes.specs.Matching.{among}
+use Rattle.passes.specs.Seats.{seatAt, fromSeat, sits}
+use Rattle.passes.specs.declared.seats.Seat.{Seat}
 use Rattle.passes.proofs.SeatsLaws.{seats-none, seats-last, seats-more}
 
 -- ---- the search, with n members after the seat x

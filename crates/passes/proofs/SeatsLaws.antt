@@ -1,21 +1,20 @@
--- The seats of a listing are the members of its crowd. In order: a seat by what stands there; the crowd from its first seat; the members left
--- after a seat; one turn of a search, for any question that a seat answers.
+-- The seats of a listing are the members of its crowd. In order: a seat by what stands there; the crowd from its first seat; the members
+-- left after a seat; one turn of a walk from seat to seat.
 -- Assumes nothing.
-use Prim.Native.Nat.{ℕ, zero, suc, _+_, _-_, _<_, _≤_}
-use mathlib.Core.Path.{_≡_, refl, sym, ap, ap₂, _∙_}
+use Prim.Native.Nat.{ℕ, zero, suc, _+_, _<_, _≤_}
+use mathlib.Core.Bool.{Bool, true, false, cond}
 use mathlib.Core.List.{List, [], _∷_}
-use mathlib.Core.Bool.{Bool, true, false, cond, not, _&&_}
+use mathlib.Core.Path.{_≡_, refl, sym, ap, _∙_}
 use native.Mathlib.Omega.{arith}
-use borrow.Author.Tests.{ltb-true, lt-ltb, le-ltb, eq-eqb, ne-eqb}
-use lib.ListN.{length}
+use borrow.Author.Tests.{ltb-true, le-ltb, eq-eqb, ne-eqb}
 use lib.Dec.{ltb, eqb}
+use lib.ListN.{length}
 use Rattle.base.specs.Bytes.{u32At, part}
-use Rattle.base.proofs.WordsLaws.{u32-at-out}
-use Rattle.lists.specs.Sid.{sidEnd}
 use Rattle.lists.proofs.SidLaws.{sid-end-short}
-use Rattle.tokens.specs.Crowd.{Member, plain, shown, width, memberAt, membersAt, crowdAt}
-use Rattle.passes.specs.declared.seats.Seat.{Seat}
+use Rattle.lists.specs.Sid.{sidEnd}
+use Rattle.tokens.specs.Crowd.{Member, plain, shown, membersAt, crowdAt}
 use Rattle.passes.specs.Seats.{allowWord, denyWord, noSeat, onward, firstSeat, seatAt, seated, fromSeat}
+use Rattle.passes.specs.declared.seats.Seat.{Seat}
 
 -- ---- a seat
 
@@ -63,15 +62,18 @@ members-onward attrs s n e w = go (ltb (length s) (e + w)) refl
 
 -- ---- the crowd, seat by seat
 
-pub crowd-first : (attrs : Bool) (s : List ℕ) (at : ℕ) → crowdAt attrs s at ≡ fromSeat attrs s (u32At s (firstSeat s at .to)) (firstSeat s at)
+pub crowd-first : (attrs : Bool) (s : List ℕ) (at : ℕ) →
+    crowdAt attrs s at ≡ fromSeat attrs s (u32At s (firstSeat s at .to)) (firstSeat s at)
 unfolding crowdAt firstSeat
 crowd-first attrs s at = go (eqb (sidEnd s at) 0) refl
   where
     go : (b : Bool) → eqb (sidEnd s at) 0 ≡ b → crowdAt attrs s at ≡ fromSeat attrs s (u32At s (firstSeat s at .to)) (firstSeat s at)
     go true p = rw p
-    go false p = simp p (ap (λ (l : List Member). plain (part s at (sidEnd s at)) ∷ l) (sym (members-onward attrs s (u32At s (sidEnd s at)) (sidEnd s at) 4)))
+    go false p = simp p (ap (λ (l : List Member). plain (part s at (sidEnd s at)) ∷ l)
+        (sym (members-onward attrs s (u32At s (sidEnd s at)) (sidEnd s at) 4)))
 
-pub crowd-start : (attrs : Bool) (s : List ℕ) (at n : ℕ) (x : Seat) → x ≡ firstSeat s at → n ≡ u32At s (x .to) → crowdAt attrs s at ≡ fromSeat attrs s n x
+pub crowd-start : (attrs : Bool) (s : List ℕ) (at n : ℕ) (x : Seat) → x ≡ firstSeat s at → n ≡ u32At s (x .to) →
+    crowdAt attrs s at ≡ fromSeat attrs s n x
 crowd-start attrs s at n x p q = rw (q, p) (crowd-first attrs s at)
 
 pub members-next : (attrs : Bool) (s : List ℕ) (n at : ℕ) → membersAt attrs s (suc n) at ≡ fromSeat attrs s n (seatAt attrs s at)
@@ -80,7 +82,8 @@ members-next true s n at = go (eqb (sidEnd s at) 0) refl
   where
     go : (b : Bool) → eqb (sidEnd s at) 0 ≡ b → membersAt true s (suc n) at ≡ fromSeat true s n (seatAt true s at)
     go true p = rw p
-    go false p = simp p (ap (λ (l : List Member). shown (part s at (sidEnd s at)) (u32At s (sidEnd s at)) ∷ l) (sym (members-onward true s n (sidEnd s at) 4)))
+    go false p = simp p (ap (λ (l : List Member). shown (part s at (sidEnd s at)) (u32At s (sidEnd s at)) ∷ l)
+        (sym (members-onward true s n (sidEnd s at) 4)))
 members-next false s n at = go (eqb (sidEnd s at) 0) refl
   where
     go : (b : Bool) → eqb (sidEnd s at) 0 ≡ b → membersAt false s (suc n) at ≡ fromSeat false s n (seatAt false s at)

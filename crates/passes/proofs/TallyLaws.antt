@@ -1,17 +1,17 @@
 -- An entry whose bits are all decided leaves the tally as it was.
 -- Assumes nothing.
-use Prim.Native.Nat.{ℕ, _-_, _^_, _<_, _≤_}
+use Prim.Native.Nat.{ℕ, _^_}
+use mathlib.Core.Bool.{Bool, true, false, not, _&&_, _||_}
 use mathlib.Core.Path.{_≡_, refl, sym, ap, ap₂, _∙_}
-use mathlib.Core.Bool.{Bool, true, false, cond, not, _&&_, _||_}
 use native.Mathlib.Omega.{arith}
 use borrow.Author.Tests.{ltb-true, ltb-false}
-use lib.Dec.{ltb}
 use lib.Bits.{or-zero-r}
-use Rattle.base.specs.Bits.{and, or, flip, covers, bit, Within}
+use lib.Dec.{ltb}
 use Rattle.base.proofs.BitLaws.{and-bit, or-bit, flip-bit, flip-lt, bits-ext, zero-bit, high-bit}
 use Rattle.base.proofs.BitsLaws.{covers-within}
-use Rattle.passes.specs.declared.tally.Tally.{Tally}
+use Rattle.base.specs.Bits.{and, or, flip, covers, bit, Within}
 use Rattle.passes.specs.OnePass.{tally, allowing, denying}
+use Rattle.passes.specs.declared.tally.Tally.{Tally}
 
 pub or-covered : (d m : ℕ) → covers d m ≡ true → or d m ≡ d
 unfolding Within

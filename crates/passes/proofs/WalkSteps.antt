@@ -1,26 +1,25 @@
 -- One turn of the pass, by the way that it takes: no entry stands, the table dismisses it, or it steps the tally on.
 -- Assumes nothing.
-use Prim.Native.Nat.{ℕ, zero, suc, _-_, _^_, _<_, _≤_}
-use mathlib.Core.Path.{_≡_, refl, sym, ap, ap₂, _∙_}
+use Prim.Native.Nat.{ℕ, suc, _-_}
+use mathlib.Core.Bool.{Bool, true, false, cond, _||_}
 use mathlib.Core.List.{List, [], _∷_}
-use mathlib.Core.Bool.{Bool, true, false, cond, not, _&&_, _||_}
+use mathlib.Core.Path.{_≡_, refl, sym, ap, ap₂, _∙_}
 use native.Mathlib.Omega.{arith}
 use borrow.Author.Tests.{eq-eqb, ne-eqb}
+use Rattle.base.specs.Bits.{and, has, covers}
 use Rattle.base.specs.Bytes.{same, part, u16At}
-use Rattle.base.specs.Bits.{and, or, flip, has, covers}
+use Rattle.lists.specs.Acl.{Entry, aceAt, entryOf, entriesAt, entriesOf}
 use Rattle.lists.specs.Sid.{ownerRights}
 use Rattle.lists.specs.declared.acl.Ace.{Ace}
-use Rattle.lists.specs.Acl.{Entry, aceAt, entryOf, entriesAt, entriesOf}
 use Rattle.tokens.specs.Crowd.{Member}
+use Rattle.passes.specs.KindsAndMasks.{entryMask}
+use Rattle.passes.specs.Marks.{dismissed, kept}
+use Rattle.passes.specs.Matching.{matches}
+use Rattle.passes.specs.NormalEvaluation.{namesOwner}
+use Rattle.passes.specs.OnePass.{tally, emptied, allowing, denying, allows, taken, run}
+use Rattle.passes.specs.OneWalk.{stepped, idle, walkedBy, walkedFrom, walkedOf}
 use Rattle.passes.specs.declared.matching.Hits.{Hits}
 use Rattle.passes.specs.declared.tally.Tally.{Tally}
-use Rattle.passes.specs.declared.walk.Walked.{Walked}
-use Rattle.passes.specs.KindsAndMasks.{entryMask}
-use Rattle.passes.specs.Matching.{matches}
-use Rattle.passes.specs.OnePass.{tally, emptied, allowing, denying, skipped, allows, taken, run}
-use Rattle.passes.specs.NormalEvaluation.{namesOwner}
-use Rattle.passes.specs.Marks.{dismissed, kept}
-use Rattle.passes.specs.OneWalk.{stepped, idle, walkedBy, walkedFrom, walkedOf}
 use Rattle.passes.proofs.BoolLaws.{or-false}
 use Rattle.passes.proofs.TallyLaws.{allowing-decided, denying-decided}
 
@@ -34,7 +33,8 @@ taken-idle kind ms h t x e = go (has (x .flags) 0x08) (matches (allows x) ms h (
     m : ℕ
     m = entryMask kind (x .mask)
 
-    go : (skip hit allow : Bool) → cond skip true (covers (t .decided .0) m) ≡ true → cond skip t (cond hit (cond allow (allowing t m) (denying t m)) t) ≡ t
+    go : (skip hit allow : Bool) → cond skip true (covers (t .decided .0) m) ≡ true →
+        cond skip t (cond hit (cond allow (allowing t m) (denying t m)) t) ≡ t
     go true hit allow e = refl
     go false true true e = allowing-decided t m e
     go false true false e = denying-decided t m e
@@ -90,12 +90,14 @@ kept-end table list n at z = rw z
 module _ (kind : ℕ) (ms : List Member) (h : Hits) (table list : List ℕ) (n less at : ℕ) (t : Tally) (named : Bool)
     (a : Ace) (here : a ≡ aceAt list at) (one : n ≡ suc less) (some : a .next ≡ 0 → ⊥) where
   pub walk-off : dismissed table (part list (a .from) (a .to)) ≡ true →
-      walkedFrom kind ms h t named (kept table (entriesAt list n at)) ≡ walkedFrom kind ms h t named (kept table (entriesAt list less (a .next)))
+      walkedFrom kind ms h t named (kept table (entriesAt list n at))
+      ≡ walkedFrom kind ms h t named (kept table (entriesAt list less (a .next)))
   walk-off d = ap (λ (es : List Entry). walkedFrom kind ms h t named es) (kept-off table list n less at a here one some d)
 
   pub walk-on : (t2 : Tally) (named2 : Bool) → dismissed table (part list (a .from) (a .to)) ≡ false →
       named2 ≡ (named || same (part list (a .from) (a .to)) ownerRights) → t2 ≡ taken kind ms h t (entryOf list a) →
-      walkedFrom kind ms h t named (kept table (entriesAt list n at)) ≡ walkedFrom kind ms h t2 named2 (kept table (entriesAt list less (a .next)))
+      walkedFrom kind ms h t named (kept table (entriesAt list n at))
+      ≡ walkedFrom kind ms h t2 named2 (kept table (entriesAt list less (a .next)))
   walk-on t2 named2 d p q =
       ap (λ (es : List Entry). walkedFrom kind ms h t named es) (kept-on table list n less at a here one some d)
       ∙ walked-step kind ms h t named (entryOf list a) (kept table (entriesAt list less (a .next)))

@@ -1,5 +1,6 @@
--- "Confinement (source 001), for a confined and not exempt token: the same DACL is walked with only the confinement identity and capabilities, each
--- for allow and deny; virtual identities follow that set; no owner's rights, no privileges. A null DACL gives the kind's all bits".
+-- "Confinement (source 001), for a confined and not exempt token: the same DACL is walked with only the confinement identity and
+-- capabilities, each for allow and deny; virtual identities follow that set; no owner's rights, no privileges. A null DACL gives the kind's
+-- all bits".
 use Prim.Native.Nat.{ℕ}
 use mathlib.Core.List.{List}
 use mathlib.Core.Bool.{Bool, cond, not, _&&_}

@@ -1,6 +1,6 @@
--- A table that dismisses strangers without a search: the last word of every member's SID leaves a mark under its lowest byte, and so do the last
--- words of S-1-3-4 and S-1-5-10. An entry whose SID finds no mark names nobody (MarksLaws).
-use Prim.Native.Nat.{ℕ, _-_, _%_}
+-- A table that dismisses strangers without a search: the last word of every member's SID leaves a mark under its lowest twelve bits, and so do the
+-- last words of S-1-3-4 and S-1-5-10. An entry whose SID finds no mark names nobody (MarksLaws).
+use Prim.Native.Nat.{ℕ, _+_, _-_, _*_, _%_}
 use mathlib.Core.List.{List, [], _∷_}
 use mathlib.Core.Bool.{Bool, true, false, cond}
 use lib.ListN.{length, set, replicate}
@@ -9,13 +9,13 @@ use Rattle.base.specs.Bytes.{byteAt}
 use Rattle.lists.specs.Acl.{Entry}
 use Rattle.tokens.specs.Crowd.{Member}
 
--- the lowest byte of a SID's last word (the remainder changes no byte)
+-- the lowest twelve bits of a SID's last word
 unfoldable pub keyOf : List ℕ → ℕ
-keyOf w = cond (ltb (length w) 4) 0 (byteAt w (length w - 4) % 256)
+keyOf w = cond (ltb (length w) 4) 0 ((byteAt w (length w - 4) + 256 * byteAt w (length w - 3)) % 4096)
 
 -- the marks of the two virtual identities alone
 abbrev pub unmarked : List ℕ
-unmarked = set (set (replicate 256 0) 4 1) 10 1
+unmarked = set (set (replicate 4096 0) 4 1) 10 1
 
 -- a mark for each member
 unfoldable pub marked : List ℕ → List Member → List ℕ

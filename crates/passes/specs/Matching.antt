@@ -1,5 +1,5 @@
--- "A SID matches for allow if .. ; for deny .. . S-1-3-4 matches as the owner does, S-1-5-10 as the self identity does, each for allow and deny apart".
--- Whom the token shows, with `allows` and `denies` of each, is a list of members (tokens: Crowd).
+-- "A SID matches for allow if .. ; for deny .. . S-1-3-4 matches as the owner does, S-1-5-10 as the self identity does, each for allow and
+-- deny apart". Whom the token shows, with `allows` and `denies` of each, is a list of members (tokens: Crowd).
 use Prim.Native.Nat.{ℕ}
 use mathlib.Core.List.{List, [], _∷_}
 use mathlib.Core.Bool.{Bool, true, false, cond, _&&_}
@@ -39,4 +39,5 @@ side allow h = cond allow (h .allow) (h .deny)
 
 -- a SID matches
 unfoldable pub matches : Bool → List Member → Hits → List ℕ → Bool
-matches allow ms h w = cond (same w ownerRights) (side allow (h .owner)) (cond (same w principalSelf) (side allow (h .me)) (among allow ms w))
+matches allow ms h w = cond (same w ownerRights) (side allow (h .owner))
+    (cond (same w principalSelf) (side allow (h .me)) (among allow ms w))

@@ -1,5 +1,6 @@
--- "Entries are taken in stored order, those with flag 0x08 skipped. Each bit is decided by the first matching entry that has it; an undecided bit
--- is not granted. A tally of bits decided and bits allowed takes one entry and gives the next tally; every pass begins with the empty tally."
+-- "Entries are taken in stored order, those with flag 0x08 skipped. Each bit is decided by the first matching entry that has it; an
+-- undecided bit is not granted. A tally of bits decided and bits allowed takes one entry and gives the next tally; every pass begins with
+-- the empty tally."
 use Prim.Native.Nat.{ℕ}
 use mathlib.Core.List.{List, [], _∷_}
 use mathlib.Core.Bool.{Bool, true, false, cond}

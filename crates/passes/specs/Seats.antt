@@ -1,6 +1,6 @@
--- A flat listing read in place, seat by seat: what the search through a token sees. Nothing here decides an answer; SeatsLaws shows that the
--- seats are the members of `crowdAt`.
-use Prim.Native.Nat.{ℕ, _+_}
+-- A flat listing read in place, seat by seat: what the search through a token sees. Nothing here decides an answer; SeatsLaws shows that
+-- the seats are the members of `crowdAt`.
+use Prim.Native.Nat.{ℕ, _+_, _≤_}
 use mathlib.Core.List.{List, [], _∷_}
 use mathlib.Core.Bool.{Bool, true, false, cond, not, _&&_}
 use lib.ListN.{length}
@@ -25,6 +25,10 @@ noSeat = record { from = 0; to = 0; next = 0; allows = false; denies = false }
 -- the place so many bytes on, or the end of the bytes
 abbrev pub onward : List ℕ → ℕ → ℕ → ℕ
 onward s e n = cond (ltb (length s) (e + n)) (length s) (e + n)
+
+-- the seat lies inside n bytes
+abbrev pub Inside : ℕ → Seat → Type 0
+Inside n x = (x .from ≤ x .to) × ((x .to ≤ n) × (x .next ≤ n))
 
 -- the first identity: for both, with a count after it
 unfoldable pub firstSeat : List ℕ → ℕ → Seat

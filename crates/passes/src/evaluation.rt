@@ -21,18 +21,18 @@ pub fn listed(kind: u32, present: bool, walked: Walked) -> Rights
     all_bits(kind)
 }
 
-// The owner's two rights, unless an entry names S-1-3-4.
+// The owner's two rights, where the owner matches for allow and no entry names S-1-3-4.
 fn owner_gives(hits: Hits, named: bool) -> u32
     ensures { λ r. ⌜ r ≡ ownerGives hits named ⌝ }
 {
-    let owner = hits.owner.allow;
-    if !owner {
-        return Tally::NONE;
-    }
     if named {
         return Tally::NONE;
     }
-    Tally::OWNERS
+    if hits.owner.allow {
+        Tally::OWNERS
+    } else {
+        Tally::NONE
+    }
 }
 
 // The right, where the privileges have the bit.

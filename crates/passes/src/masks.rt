@@ -4,7 +4,8 @@ ghost use mathlib.Core.Bool.{cond};
 ghost use Prim.Native.Nat.{_<_};
 ghost use lib.Dec.{eqb};
 ghost use Rattle.base.specs.Bits.{has};
-ghost use Rattle.passes.specs.KindsAndMasks.{right, allBits, mapped, entryMask, legal, explicit, asked};
+ghost use Rattle.passes.specs.KindsAndMasks.{allBits, mapped, entryMask};
+ghost use Rattle.passes.specs.KindsAndMasks.{legal, explicit, asked};
 use crate::tally::Tally;
 use lists::Rights;
 

@@ -3,7 +3,8 @@ ghost use mathlib.Core.Path.{_≡_};
 ghost use mathlib.Core.Bool.{cond};
 ghost use Prim.Native.Nat.{_≤_};
 ghost use lib.ListN.{length};
-ghost use Rattle.passes.specs.Seats.{allowWord, denyWord, noSeat, onward, firstSeat, seatAt, sits};
+ghost use Rattle.passes.specs.Seats.{allowWord, denyWord, noSeat, onward};
+ghost use Rattle.passes.specs.Seats.{firstSeat, seatAt, sits, Inside};
 use tokens::Attributes;
 
 // An identity of a listing: its SID stands from `from` to `to`, and `next` is the place after what
@@ -61,7 +62,7 @@ fn no_seat() -> Seat
 // The first identity of a crowd, which a count follows.
 pub fn first_seat(s: &[u8], at: usize) -> Seat
     ensures { λ r. ⌜ r ≡ firstSeat (now (s .entry)) at ⌝ }
-    ensures { λ r. ⌜ (r .from ≤ r .to) × ((r .to ≤ length (now (s .entry))) × (r .next ≤ length (now (s .entry)))) ⌝ }
+    ensures { λ r. ⌜ Inside (length (now (s .entry))) r ⌝ }
 {
     let e = lists::sid_end(s, at);
     if e == 0 {
@@ -80,7 +81,7 @@ pub fn first_seat(s: &[u8], at: usize) -> Seat
 // The member at a place: with an attribute word after it where `attrs`, else for both.
 pub fn seat_at(s: &[u8], at: usize, attrs: bool) -> Seat
     ensures { λ r. ⌜ r ≡ seatAt attrs (now (s .entry)) at ⌝ }
-    ensures { λ r. ⌜ (r .from ≤ r .to) × ((r .to ≤ length (now (s .entry))) × (r .next ≤ length (now (s .entry)))) ⌝ }
+    ensures { λ r. ⌜ Inside (length (now (s .entry))) r ⌝ }
 {
     let e = lists::sid_end(s, at);
     if e == 0 {
@@ -95,6 +96,7 @@ pub fn seat_at(s: &[u8], at: usize, attrs: bool) -> Seat
             denies: true,
         };
     }
+    // "both 32 bits and must never change places": an attribute word is no rights mask.
     let word = Attributes(base::u32_at(s, e));
     let next = onward(s, e, 4);
     Seat {

@@ -31,7 +31,8 @@ fn hit(listing: &[u8], at: usize, attrs: bool, w: &[u8]) -> Hit
 
 // How the owner and the self identity (`me`, which may be empty) stand in for the virtual ones.
 pub fn hits(listing: &[u8], at: usize, attrs: bool, owner: &[u8], me: &[u8]) -> Hits
-    ensures { λ r. ⌜ r ≡ hitsOf (crowdAt attrs (now (listing .entry)) at) (now (owner .entry)) (now (me .entry)) ⌝ }
+    ensures { λ r. ⌜ r ≡ hitsOf (crowdAt attrs (now (listing .entry)) at)
+        (now (owner .entry)) (now (me .entry)) ⌝ }
 {
     let first = hit(listing, at, attrs, owner);
     let second = hit(listing, at, attrs, me);

@@ -60,10 +60,10 @@ impl Tally {
         ensures { λ r. ⌜ r ≡ denying self (mask .0) ⌝ }
     {
         let d = self.decided.0;
-        let a = self.allowed;
+        let a = self.allowed.0;
         Tally {
             decided: Rights(d | mask.0),
-            allowed: a,
+            allowed: Rights(a),
         }
     }
 

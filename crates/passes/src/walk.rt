@@ -1,6 +1,6 @@
 // One walk over a list, which serves every evaluation.
 ghost use mathlib.Core.Path.{_≡_};
-ghost use mathlib.Core.Bool.{cond, _||_};
+ghost use mathlib.Core.Bool.{_||_};
 ghost use Rattle.base.specs.Bytes.{same};
 ghost use Rattle.lists.specs.Sid.{ownerRights};
 ghost use Rattle.lists.specs.Acl.{entriesOf};
@@ -35,19 +35,21 @@ fn names(before: bool, w: &[u8]) -> bool
     is_owner_rights(w)
 }
 
-// The pass of a list against the crowd at a place of a listing, over the entries that the table
-// keeps; for the table of the same crowd these decide as all entries do. `hits` answers for the
-// two virtual identities.
+// The pass of a list against the crowd at a place of a listing: each entry in stored order, each
+// against the identities of the listing. It goes over the entries that `table` keeps; with the
+// marks of the same crowd they decide as all entries do. `hits` answers for the two virtual
+// identities. Where no entry stands the pass ends; so does a search where no SID stands.
 pub fn pass(
     kind: u32,
     list: &[u8],
     listing: &[u8],
     at: usize,
     attrs: bool,
-    table: &[u8; 256],
+    table: &[u8; 4096],
     hits: Hits,
 ) -> Walked
-    ensures { λ r. ⌜ r ≡ walkedOf kind (crowdAt attrs (now (listing .entry)) at) hits (kept (now (table .entry)) (entriesOf (now (list .entry)))) ⌝ }
+    ensures { λ r. ⌜ r ≡ walkedOf kind (crowdAt attrs (now (listing .entry)) at) hits
+        (kept (now (table .entry)) (entriesOf (now (list .entry)))) ⌝ }
 {
     let first = first_seat(listing, at);
     let members = base::u32_at(listing, first.to);

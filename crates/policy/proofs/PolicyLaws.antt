@@ -1,14 +1,14 @@
--- What an accepted policy is. In order: a rule that is well shaped (shaped-rule, next-is, step-same); a standing taken apart (sound-parts); the rules of an
--- accepted policy: each is there and has plain lists (sound-rules), there are as many as the heading says (sound-count), and they are found by the
--- lengths of their sections alone (sound-found). Assumes nothing.
-use Prim.Native.Nat.{ℕ, zero, suc, _+_, _-_, _<_, _≤_}
-use mathlib.Core.Path.{_≡_, refl, sym, ap, ap₂, _∙_}
+-- What an accepted policy is. In order: a rule that is well shaped (shaped-rule), and found by its sections alone (step-same); plain lists
+-- (acl-plain, plain-rule); the rules of an accepted policy: each is there and has plain lists (sound-rules), there are as many as the
+-- heading says (sound-count), and they are found by the lengths of their sections alone (sound-found). Assumes nothing.
+use Prim.Native.Nat.{ℕ, zero, suc, _-_}
+use mathlib.Core.Path.{_≡_, refl, sym, ap, _∙_}
 use mathlib.Core.List.{List, [], _∷_}
 use mathlib.Core.Bool.{Bool, true, false, cond, _||_}
 use native.Mathlib.Omega.{arith}
 use lib.ListN.{length}
 use lib.Dec.{ltb, eqb}
-use borrow.Author.Tests.{lt-ltb, le-ltb, ltb-true, ltb-false, eq-eqb, ne-eqb, eqb-true, eqb-false}
+use borrow.Author.Tests.{ltb-true, ltb-false, ne-eqb, eqb-true, eqb-false}
 use Rattle.base.specs.Bytes.{byteAt, u32At}
 use Rattle.base.proofs.WordsLaws.{u32-at-out}
 use Rattle.lists.specs.Acl.{aclEnd, scanOf}
@@ -20,10 +20,10 @@ use Rattle.policy.specs.Rules.{Lists, listsOf, rulesAt, rulesOf}
 use Rattle.policy.specs.Found.{stepAt, foundAt, foundOf}
 use Rattle.policy.specs.declared.shape.Section.{Section}
 use Rattle.policy.specs.declared.shape.Rule.{Rule}
-use Rattle.policy.specs.declared.shape.Standing.{Standing}
-use Rattle.policy.specs.declared.shape.Standing.the-variants.{Sound, Misshapen, Unread}
-use Rattle.policy.proofs.OneRuleSteps.{listIn, maybeIn, made, rule-unfit, rule-long, rule-dacl, rule-sacl, rule-staged, rule-last, rule-whole}
-use Rattle.policy.proofs.PolicySteps.{standing-empty, standing-long, standing-short, standing-other, standing-many, standing-rules}
+use Rattle.policy.specs.declared.shape.Standing.the-variants.{Sound, Misshapen}
+use Rattle.policy.proofs.OneRuleSteps.{listIn, maybeIn, made, rule-unfit, rule-long, rule-dacl, rule-sacl}
+use Rattle.policy.proofs.OneRuleSteps.{rule-staged, rule-last, rule-whole}
+use Rattle.policy.proofs.PolicySteps.{standing-long, standing-short, standing-other, standing-many, standing-rules}
 
 -- ---- a rule that is well shaped
 

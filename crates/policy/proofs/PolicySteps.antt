@@ -1,5 +1,5 @@
--- What a policy is, by each test in its order. In order: the walk over all rules (Left, rules-..), the whole (standing-..). For the functions of
--- `shape`.
+-- What a policy is, by each test in its order. In order: the walk over all rules (Left, rules-..), the whole (standing-..). For the
+-- functions of `shape`.
 -- Not here: a rule, OneRuleSteps; what an accepted policy is, PolicyLaws. Assumes nothing.
 use Prim.Native.Nat.{ℕ, suc, _+_, _-_, _<_, _≤_}
 use mathlib.Core.Path.{_≡_, refl, ap}

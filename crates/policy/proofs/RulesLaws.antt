@@ -1,19 +1,26 @@
--- What the rules of a policy come to. In order: rules after rules (ruled-append); bit by bit, what is left (left-bit, left-bit-all) and where staging
--- differs (differ-bit); one rule more never adds a bit (ruled-within); masks of 32 bits (ruled-left-lt, ruled-differ-lt); a table that keeps every
--- result keeps what the rules leave (ruled-kept), and of an accepted policy so is what the code finds (ruled-found). Assumes nothing.
+-- What the rules of a policy come to. In order: rules after rules (ruled-append); bit by bit, what is left (left-bit, left-bit-all) and
+-- where staging differs (differ-bit); one rule more never adds a bit (ruled-within); masks of 32 bits (ruled-left-lt, result-lt,
+-- ruled-differ-lt); a table that keeps every result keeps what the rules leave (ruled-kept, ruled-found), as the table of the same crowd
+-- does (ruled-marked). Assumes nothing.
 use Prim.Native.Nat.{ℕ, _^_, _<_, _≤_}
 use mathlib.Core.Path.{_≡_, refl, sym, ap, ap₂, _∙_}
 use mathlib.Core.List.{List, [], _∷_, _++_}
 use mathlib.Core.Bool.{Bool, true, false, cond, not, xor, _&&_, _||_}
 use native.Mathlib.Omega.{arith}
 use lib.Bits as B
-use Rattle.base.specs.Bits.{and, or, differ, flip, bit, Within}
+use Rattle.base.specs.Bits.{and, or, differ, has, bit, Within}
 use Rattle.base.proofs.BitLaws as base
 use Rattle.lists.specs.Acl.{Entry}
 use Rattle.tokens.specs.Crowd.{Member}
 use Rattle.passes.specs.Confinement.{everything}
-use Rattle.passes.specs.Marks.{kept}
+use Rattle.passes.specs.Marks.{kept, marksOf}
+use Rattle.passes.specs.KindsAndMasks.{systemSecurity}
+use Rattle.passes.specs.OnePass.{emptied, passed}
+use Rattle.passes.specs.NormalEvaluation.{namesOwner, ownerGives, privilegesGive, normalOf}
+use Rattle.passes.proofs.OnePassLaws.{passed-lt}
+use Rattle.passes.proofs.MarksLaws.{run-kept, names-kept}
 use Rattle.passes.specs.declared.matching.Hits.{Hits}
+use Rattle.passes.specs.declared.tally.Tally.{Tally}
 use Rattle.policy.specs.Policy.{standingOf}
 use Rattle.policy.specs.Rules.{Lists, rulesOf, resultOf, ruled, judgedBy, ruledFrom, ruledBy, everyRule, someStage}
 use Rattle.policy.specs.Found.{foundOf, keptLists, keptRules}
@@ -45,10 +52,16 @@ and-skip true true c e = e
 and-skip true false c e = let z : _≡_ {A = ℕ} 0 1 = cc in absurd (omega arith)
 and-skip false b c e = e
 
+-- a mask or none
+either-lt : (b : Bool) (m : ℕ) → m < 2 ^ 32 → cond b m 0 < 2 ^ 32
+either-lt true m l = l
+either-lt false m l = omega arith
+
 module _ (kind : ℕ) (ms : List Member) (h : Hits) (p : ℕ) where
   -- ---- rules after rules
 
-  pub ruled-append : (st : Ruled) (rs qs : List Lists) → ruledFrom kind ms h p st (rs ++ qs) ≡ ruledFrom kind ms h p (ruledFrom kind ms h p st rs) qs
+  pub ruled-append : (st : Ruled) (rs qs : List Lists) →
+      ruledFrom kind ms h p st (rs ++ qs) ≡ ruledFrom kind ms h p (ruledFrom kind ms h p st rs) qs
   unfolding ruledFrom
   ruled-append st [] qs = refl
   ruled-append st (r ∷ rs) qs = ruled-append (judgedBy kind ms h p st r) rs qs
@@ -86,7 +99,9 @@ module _ (kind : ℕ) (ms : List Member) (h : Hits) (p : ℕ) where
           (bit (cond b (or (st .differ .0) (differ e t)) (st .differ .0)) i || q)
           ≡ (bit (st .differ .0) i || cond b (xor (bit e i) (bit t i) || q) q)
       go true =
-          ap (λ (b : Bool). b || q) (base.or-bit (st .differ .0) (differ e t) i ∙ ap (λ (b : Bool). bit (st .differ .0) i || b) (base.differ-bit e t i))
+          ap
+          (λ (b : Bool). b || q)
+          (base.or-bit (st .differ .0) (differ e t) i ∙ ap (λ (b : Bool). bit (st .differ .0) i || b) (base.differ-bit e t i))
           ∙ or-assoc (bit (st .differ .0) i) (xor (bit e i) (bit t i)) q
       go false = refl
 
@@ -122,6 +137,14 @@ module _ (kind : ℕ) (ms : List Member) (h : Hits) (p : ℕ) where
   pub ruled-left-lt : (rs : List Lists) → ruledBy kind ms h p rs .left .0 < 2 ^ 32
   ruled-left-lt rs = omega (arith, left-le (ruled everything 0) rs)
 
+  -- one result is a mask
+  pub result-lt : (es : List Entry) → resultOf kind ms h p es < 2 ^ 32
+  unfolding normalOf
+  result-lt es =
+      B.or-lt 32 (passed kind ms h es) _ (passed-lt kind ms h es)
+      (B.or-lt 32 _ (privilegesGive p) (either-lt (h .owner .allow && not (namesOwner es)) 0x60000 (omega arith))
+      (B.or-lt 32 _ _ (either-lt (has p 0x200) 0x80000 (omega arith)) (either-lt (has p 0x100) systemSecurity (omega arith))))
+
   pub ruled-differ-lt : ((es : List Entry) → resultOf kind ms h p es < 2 ^ 32) → (st : Ruled) (rs : List Lists) → st .differ .0 < 2 ^ 32 →
       ruledFrom kind ms h p st rs .differ .0 < 2 ^ 32
   unfolding ruledFrom judgedBy
@@ -153,5 +176,21 @@ module _ (kind : ℕ) (ms : List Member) (h : Hits) (p : ℕ) where
         ∙ ruled-kept (judgedBy kind ms h p st r) rs
 
     -- what the code finds of an accepted policy
-    pub ruled-found : (s : List ℕ) → standingOf s ≡ Sound → ruledBy kind ms h p (keptRules table (foundOf s)) ≡ ruledBy kind ms h p (rulesOf s)
+    pub ruled-found : (s : List ℕ) → standingOf s ≡ Sound →
+        ruledBy kind ms h p (keptRules table (foundOf s)) ≡ ruledBy kind ms h p (rulesOf s)
     ruled-found s sound = ruled-kept (ruled everything 0) (foundOf s) ∙ ap (ruledBy kind ms h p) (sound-found s sound)
+
+  -- ---- the table of the same crowd
+
+  pub result-kept : (es : List Entry) → resultOf kind ms h p (kept (marksOf ms) es) ≡ resultOf kind ms h p es
+  unfolding normalOf
+  result-kept es =
+      ap₂
+      (λ (t : Tally) (b : Bool). or (t .allowed .0) (or (ownerGives h b) (privilegesGive p)))
+      (run-kept kind ms h es emptied)
+      (names-kept ms es)
+
+  -- `ruled_by`, of an accepted policy and with the table of its crowd, answers what the page says
+  pub ruled-marked : (s : List ℕ) → standingOf s ≡ Sound →
+      ruledBy kind ms h p (keptRules (marksOf ms) (foundOf s)) ≡ ruledBy kind ms h p (rulesOf s)
+  ruled-marked = ruled-found (marksOf ms) result-kept

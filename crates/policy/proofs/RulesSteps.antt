@@ -1,12 +1,11 @@
 -- What the rules of a policy leave, by each step of the code. For the functions of `rules`.
 -- In order: a rule by its sections (step-read), one result (result-is), one rule more (judged-..), the walk over all rules (Left, left-..).
 -- Not here: what all rules come to, RulesLaws. Assumes nothing.
-use Prim.Native.Nat.{ℕ, zero, suc, _+_, _-_, _<_, _≤_}
-use mathlib.Core.Path.{_≡_, refl, sym, ap, _∙_}
-use mathlib.Core.List.{List, [], _∷_}
-use mathlib.Core.Bool.{Bool, true, false, cond}
+use Prim.Native.Nat.{ℕ, suc, _+_, _-_, _<_, _≤_}
+use mathlib.Core.Path.{_≡_, _∙_}
+use mathlib.Core.List.{List}
+use mathlib.Core.Bool.{true, false}
 use native.Mathlib.Omega.{arith}
-use lib.Dec.{eqb}
 use borrow.Author.Tests.{eq-eqb, ne-eqb}
 use Rattle.base.specs.Bits.{and, or, differ}
 use Rattle.lists.specs.Acl.{Entry}

@@ -1,5 +1,5 @@
--- How the code goes about it: a policy whose shape is judged already is walked once more, by the lengths of its sections alone. Nothing here decides
--- an answer; RulesLaws shows that an accepted policy's rules are found so, and that a right table changes no result.
+-- How the code goes about it: a policy whose shape is judged already is walked once more, by the lengths of its sections alone. Nothing
+-- here decides an answer; PolicyLaws shows that an accepted policy's rules are found so, RulesLaws that a right table changes no result.
 use Prim.Native.Nat.{ℕ, zero, suc}
 use mathlib.Core.List.{List, [], _∷_}
 use mathlib.Core.Bool.{Bool, true, false, cond}

@@ -1,6 +1,6 @@
--- "Policy (source 004): at most 262,144 bytes; version 1; rule count u32, at most 256; per rule five sections with a u32 length: applies_to (at most
--- 65,536), effective DACL (not empty), effective SACL, staged DACL, staged SACL. An ACL section's length equals its ACL's size. Nothing follows.
--- An empty policy means none."
+-- "Policy (source 004): at most 262,144 bytes; version 1; rule count u32, at most 256; per rule five sections with a u32 length:
+-- applies_to (at most 65,536), effective DACL (not empty), effective SACL, staged DACL, staged SACL. An ACL section's length equals its
+-- ACL's size. Nothing follows. An empty policy means none."
 use Prim.Native.Nat.{ℕ, zero, suc, _+_, _-_, _≤_}
 use mathlib.Core.List.{List, [], _∷_}
 use mathlib.Core.Bool.{Bool, true, false, cond, not, _&&_, _||_}

@@ -1,5 +1,5 @@
--- "A rule's result is normal evaluation with its DACL for the descriptor's, same owner, without confinement. The SACL sections are checked for shape
--- and otherwise unused." "Staging flag: some rule with a staged DACL whose effective and staged results differ on asked bits."
+-- "A rule's result is normal evaluation with its DACL for the descriptor's, same owner, without confinement. The SACL sections are checked
+-- for shape and otherwise unused." "Staging flag: some rule with a staged DACL whose effective and staged results differ on asked bits."
 use Prim.Native.Nat.{ℕ, zero, suc, _+_}
 use mathlib.Core.List.{List, [], _∷_}
 use mathlib.Core.Bool.{Bool, true, false, cond, xor, _&&_, _||_}

@@ -1,5 +1,5 @@
-// Policies: shape, and what the rules leave. Knows nothing of descriptors, of confinement or of what
-// is asked.
+// Policies: shape, and what the rules leave. Knows nothing of descriptors, of confinement or of
+// what is asked.
 mod one_rule;
 mod rules;
 mod sections;

@@ -1,5 +1,5 @@
-// What the rules of a policy leave. The policy's shape is judged elsewhere: here its rules are found
-// by the lengths of their sections, and each list is walked once.
+// What the rules of a policy leave. The policy's shape is judged elsewhere: here its rules are
+// found by the lengths of their sections, and each list is walked once.
 ghost use mathlib.Core.Path.{_≡_};
 ghost use mathlib.Core.Bool.{true};
 ghost use Rattle.lists.specs.Acl.{entriesOf};
@@ -48,11 +48,14 @@ fn result(
     kind: u32,
     listing: &[u8],
     at: usize,
-    table: &[u8; 256],
+    table: &[u8; 4096],
     hits: Hits,
     privileges: u64,
 ) -> Rights
-    ensures { λ r. ⌜ r .0 ≡ resultOf kind (crowdAt true (now (listing .entry)) at) hits privileges (kept (now (table .entry)) (entriesOf (now (list .entry)))) ⌝ }
+    ensures { λ r. ⌜
+        r .0 ≡ resultOf kind (crowdAt true (now (listing .entry)) at) hits privileges
+        (kept (now (table .entry)) (entriesOf (now (list .entry))))
+        ⌝ }
 {
     let walked = passes::pass(kind, list, listing, at, true, table, hits);
     passes::normal(kind, true, walked, hits, privileges)
@@ -66,12 +69,15 @@ fn judged(
     kind: u32,
     listing: &[u8],
     at: usize,
-    table: &[u8; 256],
+    table: &[u8; 4096],
     hits: Hits,
     privileges: u64,
 ) -> Ruled
     requires { ⌜ Placed (now s) r ⌝ }
-    ensures { λ q. ⌜ q ≡ judgedBy kind (crowdAt true (now (listing .entry)) at) hits privileges before (keptLists (now (table .entry)) (listsOf (now (s .entry)) r)) ⌝ }
+    ensures { λ q. ⌜
+        q ≡ judgedBy kind (crowdAt true (now (listing .entry)) at) hits privileges before
+        (keptLists (now (table .entry)) (listsOf (now (s .entry)) r))
+        ⌝ }
 {
     let left = before.left;
     let differ = before.differ;
@@ -100,11 +106,14 @@ pub fn ruled_by(
     kind: u32,
     listing: &[u8],
     at: usize,
-    table: &[u8; 256],
+    table: &[u8; 4096],
     hits: Hits,
     privileges: u64,
 ) -> Ruled
-    ensures { λ r. ⌜ r ≡ ruledBy kind (crowdAt true (now (listing .entry)) at) hits privileges (keptRules (now (table .entry)) (foundOf (now (s .entry)))) ⌝ }
+    ensures { λ r. ⌜
+        r ≡ ruledBy kind (crowdAt true (now (listing .entry)) at) hits privileges
+        (keptRules (now (table .entry)) (foundOf (now (s .entry))))
+        ⌝ }
 {
     let n = base::u32_at(s, 1);
     let mut so_far = Ruled {

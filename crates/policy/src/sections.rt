@@ -3,8 +3,8 @@ ghost use mathlib.Core.Path.{_≡_};
 ghost use mathlib.Core.Bool.{true, cond};
 ghost use lib.Dec.{eqb};
 ghost use Rattle.lists.specs.declared.acl.Scan.the-variants.{Broken};
-ghost use Rattle.policy.specs.Policy.{section, sectionAt, bytesOf, Lies, aclSection, maybeAcl};
-ghost use Rattle.policy.specs.Policy.{broken, alien};
+ghost use Rattle.policy.specs.Policy.{section, sectionAt, bytesOf, Lies, aclSection};
+ghost use Rattle.policy.specs.Policy.{maybeAcl, broken, alien};
 use crate::shape::Section;
 use lists::Scan;
 
@@ -61,7 +61,9 @@ fn maybe_acl(l: &[u8], deep: bool) -> Scan
 // What a section at its place holds: a list. Broken where the section does not fit.
 pub fn list_in(s: &[u8], x: Section) -> Scan
     requires { ⌜ Lies (now s) x ⌝ }
-    ensures { λ r. ⌜ r ≡ cond (eqb (x .to) 0) Broken (aclSection true (bytesOf (now (s .entry)) x)) ⌝ }
+    ensures { λ r. ⌜
+        r ≡ cond (eqb (x .to) 0) Broken (aclSection true (bytesOf (now (s .entry)) x))
+        ⌝ }
 {
     let from = x.from;
     let to = x.to;
@@ -74,7 +76,9 @@ pub fn list_in(s: &[u8], x: Section) -> Scan
 // What a section at its place holds: a list, or nothing. Broken where the section does not fit.
 pub fn maybe_in(s: &[u8], x: Section, deep: bool) -> Scan
     requires { ⌜ Lies (now s) x ⌝ }
-    ensures { λ r. ⌜ r ≡ cond (eqb (x .to) 0) Broken (maybeAcl deep (bytesOf (now (s .entry)) x)) ⌝ }
+    ensures { λ r. ⌜
+        r ≡ cond (eqb (x .to) 0) Broken (maybeAcl deep (bytesOf (now (s .entry)) x))
+        ⌝ }
 {
     let from = x.from;
     let to = x.to;
@@ -84,6 +88,7 @@ pub fn maybe_in(s: &[u8], x: Section, deep: bool) -> Scan
     maybe_acl(&s[from..to], deep)
 }
 
+// Whether a list is misshapen.
 pub fn is_broken(x: Scan) -> bool
     ensures { λ r. ⌜ r ≡ broken x ⌝ }
 {
@@ -94,6 +99,7 @@ pub fn is_broken(x: Scan) -> bool
     }
 }
 
+// Whether a well shaped list has an entry type other than 0 and 1.
 pub fn is_alien(x: Scan) -> bool
     ensures { λ r. ⌜ r ≡ alien x ⌝ }
 {

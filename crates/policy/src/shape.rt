@@ -26,6 +26,7 @@ pub struct Rule {
     pub staged: Section,
 }
 
+// Whether one of the two holds.
 fn either(a: bool, b: bool) -> bool
     ensures { λ r. ⌜ r ≡ (a || b) ⌝ }
 {
@@ -37,7 +38,9 @@ fn either(a: bool, b: bool) -> bool
 
 // The standing of `n` rules that stand back to back after the heading, with nothing after them.
 fn judge_rules(s: &[u8], n: u32) -> Standing
-    ensures { λ r. ⌜ r ≡ standing (rulesShaped (now (s .entry)) n 5) (rulesUnread (now (s .entry)) n 5) ⌝ }
+    ensures { λ r. ⌜
+        r ≡ standing (rulesShaped (now (s .entry)) n 5) (rulesUnread (now (s .entry)) n 5)
+        ⌝ }
 {
     let mut unread = false;
     let mut at: usize = 5;

@@ -24,11 +24,18 @@ use Rattle.access.proofs.FileLaws as file
 use Rattle.access.proofs.AcceptedLaws as accepted
 use Rattle.access.proofs.StrangersLaws as strangers
 use Rattle.access.proofs.GainLaws as gain
+use Rattle.access.proofs.check as check
+use Rattle.access.proofs.question as question
+use Rattle.tokens.proofs.to_listing as to-listing
+use Rattle.tokens.proofs.to_record as to-record
 
 -- ---- Demand 1. "Whatever bytes arrive, the check ends and touches nothing outside them."
 
--- PLACE OF THE FUNCTIONS' THEOREMS: `check` and `question` of access, `to_listing` and `to_record` of tokens. For all lent bytes the
--- function ends, is safe, and returns and leaves what its contract says, which is an equation with the definitions below.
+-- Of the functions themselves: for all lent bytes the function ends, is safe, and returns and leaves what its contract says, which is
+-- an equation with the definitions below. Contracts: access/src, `check` and `question`; tokens/src, `to_listing` and `to_record`.
+pub functions-met : {M : Type 1} → check.Statement.statement M × question.Statement.statement M × to-listing.Statement.statement M
+    × to-record.Statement.statement M
+functions-met = (check.Met.met, question.Met.met, to-listing.Met.met, to-record.Met.met)
 
 -- "Bad input is refused by the number that document 01 gives."
 pub bad-input : (q : Question) → checked q .status ≡ lowest (conditions q)

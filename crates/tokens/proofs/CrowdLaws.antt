@@ -1,10 +1,11 @@
--- A listing shows whom its token shows: the crowd read at the user's place is the token's, and the one at the confinement identity's place is its
--- confinement (crowd-listed, confined-listed). Its first twelve bytes say the flags and the privileges (flags-listed, privileges-listed).
+-- A listing shows whom its token shows: the crowd read at the user's place is the token's, and the one at the confinement identity's place
+-- is its confinement (crowd-listed, confined-listed). Its first twelve bytes say the flags and the privileges (flags-listed,
+-- privileges-listed).
 -- In order: members of one kind (members-stand), a crowd (crowd-stands), the places of a listing, the laws. Assumes nothing.
-use Prim.Native.Nat.{ℕ, zero, suc, _+_, _-_, _*_, _/_, _%_, _^_, _<_, _≤_}
-use mathlib.Core.Path.{_≡_, refl, sym, ap, ap₂, _∙_}
+use Prim.Native.Nat.{ℕ, _+_, _*_, _/_, _%_, _^_, _<_}
+use mathlib.Core.Path.{_≡_, refl, ap, ap₂, _∙_}
 use mathlib.Core.List.{List, [], _∷_, _++_, append-assoc, map}
-use mathlib.Core.Bool.{Bool, true, false, cond}
+use mathlib.Core.Bool.{Bool, true, false}
 use native.Mathlib.Omega.{arith}
 use lib.Dec.{eqb}
 use lib.ListN.{length, length-append}
@@ -15,12 +16,13 @@ use Rattle.base.proofs.ValueLaws.{length-little}
 use Rattle.base.proofs.WordsLaws.{u32-at-back}
 use Rattle.lists.specs.Sid.{sidEnd}
 use Rattle.lists.proofs.SidLaws.{is-sid-long}
-use Rattle.tokens.specs.Token.{Group, Confined, Token, confined}
-use Rattle.tokens.specs.Shaped.{All, Identity, ShapedGroup, ShapedConfined, Confinement, Shaped}
+use Rattle.tokens.specs.Token.{Token, confined}
+use Rattle.tokens.specs.Shaped.{All, Identity, ShapedGroup, ShapedConfined, Shaped}
 use Rattle.tokens.specs.Fields.{each, groupBytes, confinementBytes, peopleBytes, fieldsBytes}
 use Rattle.tokens.specs.FlatListing.{flatWriter, listingOf}
-use Rattle.tokens.specs.Crowd.{Member, plain, shown, crowdOf, confinedOf, memberAt, width, membersAt, crowdAt, userPlace, confinedPlace}
-use Rattle.tokens.proofs.FormatLaws.{Stands, stands-left, stands-right, stands-whole, stands-end}
+use Rattle.tokens.specs.Crowd.{Member, plain, shown, crowdOf, confinedOf, memberAt, width, membersAt, crowdAt, userPlace}
+use Rattle.tokens.specs.Crowd.{confinedPlace}
+use Rattle.tokens.proofs.FormatLaws.{Stands, stands-left, stands-right, stands-whole}
 use Rattle.tokens.proofs.IdentityLaws.{sid-end-stands}
 use Rattle.tokens.proofs.ListingLaws.{little-eight}
 
@@ -44,9 +46,10 @@ sid-end-pos w {s} {at} o x =
 pub record Shows {A : Type 0} (attrs : Bool) (bytes : A → List ℕ) (member : A → Member) (Ok : A → Type 0) : Type 0 where
   pub known : (a : A) → Ok a → {s : List ℕ} {at : ℕ} {q : List ℕ} → Stands s at (bytes a) q → eqb (sidEnd s at) 0 ≡ false
   pub same : (a : A) → Ok a → {s : List ℕ} {at : ℕ} {q : List ℕ} → Stands s at (bytes a) q → memberAt attrs s at (sidEnd s at) ≡ member a
-  pub next : (a : A) → Ok a → {s : List ℕ} {at : ℕ} {q : List ℕ} → Stands s at (bytes a) q → sidEnd s at + width attrs ≡ at + length (bytes a)
+  pub next : (a : A) → Ok a → {s : List ℕ} {at : ℕ} {q : List ℕ} → Stands s at (bytes a) q →
+      sidEnd s at + width attrs ≡ at + length (bytes a)
 
-group-shows : Shows true (groupBytes flatWriter) (λ g. shown (g .sid) (g .attributes)) ShapedGroup
+pub group-shows : Shows true (groupBytes flatWriter) (λ g. shown (g .sid) (g .attributes)) ShapedGroup
 group-shows =
     record {
       known = λ g o x. sid-end-pos (g .sid) (o .sid) (stands-left (g .sid) (little 4 (g .attributes)) x);
@@ -62,7 +65,7 @@ group-shows =
           omega arith;
     }
 
-plain-shows : Shows false (λ w. w) plain Identity
+pub plain-shows : Shows false (λ w. w) plain Identity
 plain-shows =
     record {
       known = λ w o x. sid-end-pos w o x;
@@ -101,14 +104,14 @@ stands-at : {s : List ℕ} {a b : ℕ} {w q : List ℕ} → a ≡ b → Stands s
 stands-at e x = rw (← e) x
 
 module _ (t : Token) where
-  fields-stand : Stands (listingOf t) 0 (little 4 (t .flags) ++ (little 8 (t .privileges) ++ peopleBytes flatWriter t)) []
+  pub fields-stand : Stands (listingOf t) 0 (little 4 (t .flags) ++ (little 8 (t .privileges) ++ peopleBytes flatWriter t)) []
   unfolding listingOf fieldsBytes
   fields-stand = stands-whole (fieldsBytes flatWriter t)
 
-  rest-stands : Stands (listingOf t) 4 (little 8 (t .privileges) ++ peopleBytes flatWriter t) []
+  pub rest-stands : Stands (listingOf t) 4 (little 8 (t .privileges) ++ peopleBytes flatWriter t) []
   rest-stands = let l = length-little 4 (t .flags) in stands-at (omega arith) (stands-right (little 4 (t .flags)) _ fields-stand)
 
-  people-stand : Stands (listingOf t) 12 (peopleBytes flatWriter t) []
+  pub people-stand : Stands (listingOf t) 12 (peopleBytes flatWriter t) []
   people-stand =
       let l = length-little 8 (t .privileges) in
       stands-at (omega arith) (stands-right (little 8 (t .privileges)) (peopleBytes flatWriter t) rest-stands)
@@ -129,12 +132,12 @@ module _ (t : Token) where
   -- ---- the crowds
 
   -- the user with the groups, and the confinement after them
-  crowd-stand : Stands (listingOf t) 12 (t .user ++ (little 4 (length (t .groups)) ++ each (groupBytes flatWriter) (t .groups)))
+  pub crowd-stand : Stands (listingOf t) 12 (t .user ++ (little 4 (length (t .groups)) ++ each (groupBytes flatWriter) (t .groups)))
       (confinementBytes flatWriter (confined (t .flags)) (t .confinement) ++ [])
   unfolding peopleBytes
   crowd-stand = let x = people-stand in record { inside = x .inside; here = x .here ∙ simp append-assoc }
 
-  confinement-stand : Stands (listingOf t) (confinedPlace t) (confinementBytes flatWriter (confined (t .flags)) (t .confinement)) []
+  pub confinement-stand : Stands (listingOf t) (confinedPlace t) (confinementBytes flatWriter (confined (t .flags)) (t .confinement)) []
   unfolding peopleBytes
   confinement-stand =
       let a = t .user in

@@ -2,22 +2,23 @@
 -- back from what is written of it (fields-back), and what is read is Shaped and stands there as it is written (fields-form).
 -- In order: a group, the confinement, the people, the fields; then how long the fields are (fields-short).
 -- Assumes nothing.
-use Prim.Native.Nat.{ℕ, zero, suc, _+_, _-_, _*_, _^_, _<_, _≤_}
-use mathlib.Core.Path.{_≡_, refl, sym, ap, ap₂, _∙_}
-use mathlib.Core.List.{List, [], _∷_, _++_}
-use mathlib.Core.Bool.{Bool, true, false, cond}
+use Prim.Native.Nat.{ℕ, _+_, _^_, _<_, _≤_}
+use mathlib.Core.Path.{_≡_, refl, sym, ap, ap₂}
+use mathlib.Core.List.{List, [], _++_}
+use mathlib.Core.Bool.{Bool, true, false}
 use native.Mathlib.Nat.{add-zero}
 use native.Mathlib.Omega.{arith}
 use lib.Dec.{T, leb}
 use lib.Pow.{areBytes}
 use lib.ListN.{length}
 use borrow.Author.Tests.{le-leb, leb-true}
-use Rattle.base.specs.Bytes.{Read, bind, only}
-use Rattle.base.specs.Bytes.Read.{none, some}
-use Rattle.tokens.specs.Token.{Group, Confined, Token, confined, unconfined}
-use Rattle.tokens.specs.Shaped.{All, Identity, ShapedGroup, ShapedConfined, Confinement, Shaped}
-use Rattle.tokens.specs.Fields.{Reader, Writer, many, each, groupAt, confinementAt, peopleAt, fieldsAt, groupBytes, confinementBytes, peopleBytes, fieldsBytes}
-use Rattle.tokens.proofs.FormatLaws.{length-two, length-three, length-four, Stands, stands-left, stands-right, Formed, formed-none, formed-append, formed-same, bound, allowed, moved, Kept, many-back, many-form}
+use Rattle.base.specs.Bytes.Read.{some}
+use Rattle.tokens.specs.Token.{Token, confined, unconfined}
+use Rattle.tokens.specs.Shaped.{Identity, ShapedGroup, ShapedConfined, Confinement, Shaped}
+use Rattle.tokens.specs.Fields.{Reader, Writer, each, groupAt, confinementAt, peopleAt, fieldsAt, groupBytes, confinementBytes}
+use Rattle.tokens.specs.Fields.{peopleBytes, fieldsBytes}
+use Rattle.tokens.proofs.FormatLaws.{length-two, length-three, length-four, Stands, stands-left, stands-right, Formed, formed-none}
+use Rattle.tokens.proofs.FormatLaws.{formed-append, formed-same, bound, allowed, moved, Kept, many-back, many-form}
 
 -- a reader and a writer whose five parts belong together
 pub record Format (f : Reader) (w : Writer) : Type 0 where
@@ -37,7 +38,10 @@ module _ {f : Reader} {w : Writer} (k : Format f w) where
         back = λ g o {s} {at} x.
             let a = w .identity (g .sid) in
             let b = w .attributes (g .attributes) in
-            rw (k .identity .back (g .sid) (o .sid) (stands-left a b x), k .attributes .back (g .attributes) (o .attributes) (stands-right a b x))
+            rw (
+              k .identity .back (g .sid) (o .sid) (stands-left a b x),
+              k .attributes .back (g .attributes) (o .attributes) (stands-right a b x),
+            )
             (ap (some g) (length-two at a b));
         form = λ {s} {at} b i e.
             let x = bound _ _ _ _ e in

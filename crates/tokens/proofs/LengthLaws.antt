@@ -1,8 +1,8 @@
 -- How long the fields of a token are at most, once for both formats: by shape, and where the token keeps the token rules.
 -- In order: a sequence (each-short), one that lists a given identity (listed-short), the capabilities, the fields (fields-short,
 -- accepted-short). Assumes nothing.
-use Prim.Native.Nat.{ℕ, zero, suc, _+_, _-_, _*_, _^_, _<_, _≤_}
-use mathlib.Core.Path.{_≡_, refl, sym, ap, ap₂, _∙_}
+use Prim.Native.Nat.{ℕ, zero, suc, _+_, _*_, _^_, _<_, _≤_}
+use mathlib.Core.Path.{_≡_, refl, ap, _∙_}
 use mathlib.Core.List.{List, [], _∷_, _++_}
 use mathlib.Core.Bool.{Bool, true, false, cond, not, _&&_}
 use native.Mathlib.Nat.{mul-le-mul-right, mul-comm, mul-suc}
@@ -11,8 +11,8 @@ use lib.ListN.{length, length-append}
 use borrow.Author.Tests.{not-true, not-false}
 use Rattle.base.specs.Bytes.{same}
 use Rattle.base.proofs.BytesLaws.{same-eq}
-use Rattle.tokens.specs.Token.{Group, Confined, Token, confined, unconfined}
-use Rattle.tokens.specs.Shaped.{All, Identity, ShapedGroup, ShapedConfined, Confinement, Shaped}
+use Rattle.tokens.specs.Token.{Group, Confined, Token, confined}
+use Rattle.tokens.specs.Shaped.{All, Identity, ShapedGroup, Confinement, Shaped}
 use Rattle.tokens.specs.TokenRules.{allRestricted, lists, exemptAlone, virtualStands, unrestricted, keeps}
 use Rattle.tokens.specs.Fields.{Writer, each, groupBytes, confinementBytes, peopleBytes, fieldsBytes}
 
@@ -32,7 +32,8 @@ module _ {A : Type 0} {Ok : A → Type 0} (w : A → List ℕ) (b : ℕ) (short 
 
 -- one of the identities is x, and the others are of length at most b
 module _ (w : List ℕ → List ℕ) (b : ℕ) (short : (a : List ℕ) → Identity a → length (w a) ≤ b) (x : List ℕ) where
-  pub listed-short : (n : ℕ) (l : List (List ℕ)) → length l ≤ suc n → All Identity l → lists x l ≡ true → length (each w l) ≤ n * b + length (w x)
+  pub listed-short : (n : ℕ) (l : List (List ℕ)) → length l ≤ suc n → All Identity l → lists x l ≡ true →
+      length (each w l) ≤ n * b + length (w x)
   unfolding each lists
   listed-short n [] h o e = let z : _≡_ {A = ℕ} 0 1 = cc in absurd (omega arith)
   listed-short n (a ∷ l) h o e = rw (length-append (w a) (each w l)) (go (same a x) refl n h (λ n′ h′ e′. listed-short n′ l h′ (o .1) e′) e)
@@ -95,7 +96,8 @@ module _ {w : Writer} {m : Widths} (k : Longest w m) where
       let b = k .attributes (g .attributes) (o .attributes) in
       rw (length-append (w .identity (g .sid)) (w .attributes (g .attributes))) (omega arith)
 
-  groups-short : (l : List Group) → length l ≤ 256 → All ShapedGroup l → length (each (groupBytes w) l) ≤ 256 * (m .identity + m .attributes)
+  groups-short : (l : List Group) → length l ≤ 256 → All ShapedGroup l →
+      length (each (groupBytes w) l) ≤ 256 * (m .identity + m .attributes)
   groups-short l h o =
       let a = each-short (groupBytes w) (m .identity + m .attributes) group-short l o in
       let b = mul-le-mul-right (m .identity + m .attributes) h in

@@ -7,7 +7,16 @@ pub mod LengthLaws
 pub mod RoundTrip
 pub mod RecordLaws
 pub mod LimitLaws
+pub mod LargestLaws
 pub mod CrowdLaws
+pub mod WriteLaws
+pub mod PackLaws
+pub mod PackRecordLaws
+pub mod PackedLaws
 pub mod UnpackLaws
 pub mod RecordBytes
+pub mod RecordAnswer
 pub mod JudgeLaws
+pub mod JudgePeople
+pub mod ConvertLaws
+pub mod ToRecordLaws

@@ -1,18 +1,18 @@
 -- The flat listing as a format: its numbers and its identities are read back and have one form (flat-format).
 -- Assumes nothing.
-use Prim.Native.Nat.{ℕ, zero, suc, _+_, _-_, _*_, _/_, _%_, _^_, _<_, _≤_}
+use Prim.Native.Nat.{ℕ, zero, suc, _+_, _*_, _/_, _%_, _^_, _<_, _≤_}
 use mathlib.Core.Path.{_≡_, refl, sym, ap, ap₂, _∙_}
-use mathlib.Core.List.{List, [], _∷_, _++_}
+use mathlib.Core.List.{List, _∷_, _++_}
 use mathlib.Core.Bool.{Bool, true, false, cond}
 use native.Mathlib.Nat.{pow-suc, mul-assoc, mul-comm}
 use native.Mathlib.Omega.{arith}
 use lib.Dec.{T, ltb, eqb}
 use lib.Pow.{areBytes}
-use lib.ListN.{length, drop}
+use lib.ListN.{length}
 use borrow.Author.Tests.{le-ltb, ltb-false, ne-eqb, eqb-false}
 use Rattle.base.specs.Bytes.{Read, u32At, part, little}
 use Rattle.base.specs.Bytes.Read.{none, some}
-use Rattle.base.proofs.BytesLaws.{part-append, part-of-drop, bytes-part}
+use Rattle.base.proofs.BytesLaws.{part-of-drop, bytes-part}
 use Rattle.base.proofs.ValueLaws.{length-little}
 use Rattle.base.proofs.WordsLaws.{u32-at-lt, u32-at-back, little-of-u32-at}
 use Rattle.lists.specs.Sid.{sidEnd}

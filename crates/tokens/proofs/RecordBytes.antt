@@ -1,22 +1,17 @@
--- The packed record as the bytes of its flat listing: each part read and written is that part of `Unpacking`, and what the whole comes to.
--- In order: a count and what follows, groups, the confinement, the people, the fields; the answer for the whole record.
--- Assumes nothing.
-use Prim.Native.Nat.{ℕ, zero, suc, _+_, _-_, _*_, _<_, _≤_}
-use mathlib.Core.Path.{_≡_, refl, sym, ap, ap₂, _∙_}
-use mathlib.Core.List.{List, [], _∷_, _++_, append-assoc}
-use mathlib.Core.Bool.{Bool, true, false, cond, not}
-use native.Mathlib.Nat.{add-zero, zero-add}
-use native.Mathlib.Omega.{arith}
-use borrow.Author.Tests.{not-true, not-false, eq-eqb, ne-eqb}
-use lib.ListN.{length, take, length-append}
-use lib.Seq.{sets, sets-eq, take-append-seam, take-append-le, take-all}
-use lib.Dec.{leb, eqb}
-use Rattle.base.specs.Bytes.{Read, bind, only, little, big}
+-- The packed record as the bytes of its flat listing: each part, read and written, is that part of `Unpacking`.
+-- In order: a count and what follows, groups, the confinement, a front before all that is written, the people, the fields.
+-- Not here: what the whole record comes to, RecordAnswer. Assumes nothing.
+use Prim.Native.Nat.{ℕ, _+_}
+use mathlib.Core.Path.{_≡_, refl, sym, ap, _∙_}
+use mathlib.Core.List.{List, _++_, append-assoc}
+use mathlib.Core.Bool.{Bool, true, false}
+use lib.ListN.{length}
+use lib.Dec.{leb}
+use Rattle.base.specs.Bytes.{Read, bind, only, little}
 use Rattle.base.specs.Bytes.Read.{none, some}
 use Rattle.base.specs.Bits.{and}
-use Rattle.base.specs.Sevens.{number, numOf}
-use Rattle.base.specs.declared.sevens.Num.{Num}
-use Rattle.tokens.specs.Token.{Group, Confined, Token, confined, unconfined}
+use Rattle.base.specs.Sevens.{number}
+use Rattle.tokens.specs.Token.{Group, Confined, Token, confined}
 use Rattle.tokens.specs.Fields.{
   many,
   each,
@@ -28,39 +23,23 @@ use Rattle.tokens.specs.Fields.{
   peopleBytes,
   fieldsAt,
   fieldsBytes,
-  ended,
 }
-use Rattle.tokens.specs.TokenRecord.{packedIdentity, packedReader, readRecord}
+use Rattle.tokens.specs.TokenRecord.{packedIdentity, packedReader}
 use Rattle.tokens.specs.FlatListing.{flatWriter, listingOf}
 use Rattle.tokens.specs.Unpacking.{
   written,
   then,
   copied,
-  Outcome,
-  outcome,
   limited,
   wordAt,
-  counted,
   groupOf,
   capabilitiesOf,
   confinementOf,
   restOf,
   groupsOf,
   peopleOf,
-  Unpacked,
 }
-use Rattle.tokens.specs.Unpacking.Outcome.{refused, done}
-use Rattle.tokens.proofs.UnpackLaws.{
-  num-some,
-  num-none,
-  limited-bind,
-  then-some,
-  then-refused,
-  written-append,
-  many-copied,
-  many-length,
-  sets-append,
-}
+use Rattle.tokens.proofs.UnpackLaws.{limited-bind, many-copied, many-length}
 
 -- ---- a count and what follows it, after a front h
 
@@ -94,7 +73,8 @@ group-is s at = go (packedIdentity s at)
     last w (some a b) = refl
 
     go : (q : Read (List ℕ)) →
-        written (groupBytes flatWriter) (bind q (λ w next. bind (number 32 s next) (λ a end. some (record { sid = w; attributes = a }) end)))
+        written (groupBytes flatWriter)
+        (bind q (λ w next. bind (number 32 s next) (λ a end. some (record { sid = w; attributes = a }) end)))
         ≡ then q (wordAt s)
     go none = refl
     go (some w b) = last w (number 32 s b)
@@ -163,26 +143,30 @@ module _ (flags p : ℕ) (s : List ℕ) where
 
   people-rest : (u : List ℕ) (gs : List Group) (n c : ℕ) → length gs ≡ n →
       written (peopleBytes flatWriter) (bind (confinementAt packedReader (confined flags) s c) (λ w end. some (token u gs w) end))
-      ≡ bind (bind (restOf (confined flags) s c) (λ v e. some (each (groupBytes flatWriter) gs ++ v) e)) (λ v e. some (u ++ (little 4 n ++ v)) e)
+      ≡ bind (bind (restOf (confined flags) s c) (λ v e. some (each (groupBytes flatWriter) gs ++ v) e))
+      (λ v e. some (u ++ (little 4 n ++ v)) e)
   unfolding peopleBytes token
   people-rest u gs n c h = rw (sym (confinement-is (confined flags) s c)) (go (confinementAt packedReader (confined flags) s c))
     where
       go : (q : Read Confined) →
           written (peopleBytes flatWriter) (bind q (λ w end. some (token u gs w) end))
-          ≡ bind (bind (written (confinementBytes flatWriter (confined flags)) q) (λ v e. some (each (groupBytes flatWriter) gs ++ v) e)) (λ v e. some (u ++ (little 4 n ++ v)) e)
+          ≡ bind (bind (written (confinementBytes flatWriter (confined flags)) q) (λ v e. some (each (groupBytes flatWriter) gs ++ v) e))
+          (λ v e. some (u ++ (little 4 n ++ v)) e)
       go none = refl
       go (some w e) = rw h
 
   people-tail : (u : List ℕ) (n b : ℕ) →
       written (peopleBytes flatWriter)
-      (bind (many (groupAt packedReader) n s b) (λ gs c. bind (confinementAt packedReader (confined flags) s c) (λ w end. some (token u gs w) end)))
+      (bind (many (groupAt packedReader) n s b)
+      (λ gs c. bind (confinementAt packedReader (confined flags) s c) (λ w end. some (token u gs w) end)))
       ≡ bind (then (copied groupOf n s b) (restOf (confined flags) s)) (λ v e. some (u ++ (little 4 n ++ v)) e)
   people-tail u n b =
       go (many (groupAt packedReader) n s b) (many-length (groupAt packedReader) s n b)
       ∙ ap (λ (x : Read (List ℕ)). bind (then x (restOf (confined flags) s)) (λ v e. some (u ++ (little 4 n ++ v)) e)) (groups-are s n b)
     where
       go : (q : Read (List Group)) → ((xs : List Group) (e : ℕ) → q ≡ some xs e → length xs ≡ n) →
-          written (peopleBytes flatWriter) (bind q (λ gs c. bind (confinementAt packedReader (confined flags) s c) (λ w end. some (token u gs w) end)))
+          written (peopleBytes flatWriter)
+          (bind q (λ gs c. bind (confinementAt packedReader (confined flags) s c) (λ w end. some (token u gs w) end)))
           ≡ bind (then (written (each (groupBytes flatWriter)) q) (restOf (confined flags) s)) (λ v e. some (u ++ (little 4 n ++ v)) e)
       go none h = refl
       go (some gs c) h = people-rest u gs n c (h gs c refl)
@@ -192,13 +176,16 @@ module _ (flags p : ℕ) (s : List ℕ) where
   people-is at = go (packedIdentity s at)
     where
       k : List ℕ → ℕ → ℕ → Read Token
-      k u n b = bind (many (groupAt packedReader) n s b) (λ gs c. bind (confinementAt packedReader (confined flags) s c) (λ w end. some (token u gs w) end))
+      k u n b = bind (many (groupAt packedReader) n s b)
+          (λ gs c. bind (confinementAt packedReader (confined flags) s c) (λ w end. some (token u gs w) end))
 
       go : (q : Read (List ℕ)) →
-          written (peopleBytes flatWriter) (bind q (λ u a. bind (number 32 s a) (λ n b. only (leb n 256) (k u n b)))) ≡ then q (groupsOf flags s)
+          written (peopleBytes flatWriter) (bind q (λ u a. bind (number 32 s a) (λ n b. only (leb n 256) (k u n b))))
+          ≡ then q (groupsOf flags s)
       go none = refl
       go (some u a) =
-          counted-is 256 (number 32 s a) (k u) (λ n b. then (copied groupOf n s b) (restOf (confined flags) s)) (peopleBytes flatWriter) u (people-tail u)
+          counted-is 256 (number 32 s a) (k u) (λ n b. then (copied groupOf n s b) (restOf (confined flags) s)) (peopleBytes flatWriter) u
+          (people-tail u)
 
   -- the whole listing: flags and privileges before the people
   listing-front : (at : ℕ) → Fronted listingOf (peopleBytes flatWriter) (little 4 flags ++ little 8 p) (peopleAt packedReader flags p s at)
@@ -210,99 +197,14 @@ module _ (flags p : ℕ) (s : List ℕ) where
       fronted-bind (confinementAt packedReader (confined flags) s c) (λ w e.
       record { front = ap (λ (v : List ℕ). some v e) (sym (append-assoc (little 4 flags) (little 8 p) _)) })))))
 
-  listing-is : (at : ℕ) →
+  pub listing-is : (at : ℕ) →
       written listingOf (peopleAt packedReader flags p s at) ≡ then (some (little 4 flags ++ little 8 p) at) (peopleOf flags s)
   listing-is at =
       listing-front at .front ∙ ap (λ (x : Read (List ℕ)). bind x (λ v e. some ((little 4 flags ++ little 8 p) ++ v) e)) (people-is at)
 
 -- ---- the fields
 
-fields-is : (s : List ℕ) (at : ℕ) →
+pub fields-is : (s : List ℕ) (at : ℕ) →
     fieldsAt packedReader s at ≡ bind (limited 3 s at) (λ flags a. bind (number 64 s a) (λ p b. peopleAt packedReader flags p s b))
 unfolding fieldsAt
 fields-is s at = limited-bind (number 32 s at) 3 (λ flags a. bind (number 64 s a) (λ p b. peopleAt packedReader flags p s b))
-
--- ---- the answer for the whole record
-
--- from what the reading of the fields comes to
-module _ (s entry exit : List ℕ) where
-  ended-refused : (q : Read Token) → outcome (written listingOf q) entry 0 ≡ refused → Unpacked (ended s q) entry exit 0
-  unfolding outcome
-  ended-refused none e = refl
-  ended-refused (some t end) e = let z : _≡_ {A = ℕ} 0 1 = cc in absurd (omega arith)
-
-  module _ (to next : ℕ) where
-    ended-longer : (q : Read Token) → outcome (written listingOf q) entry 0 ≡ done exit to next → (next ≡ length s → ⊥) → Unpacked (ended s q) entry exit 0
-    unfolding outcome
-    ended-longer none e h = refl
-    ended-longer (some t end) e h =
-        let k : end ≡ next = cc in
-        rw (k, ne-eqb next (length s) h) refl
-
-    ended-done : (q : Read Token) → outcome (written listingOf q) entry 0 ≡ done exit to next → next ≡ length s → Unpacked (ended s q) entry exit to
-    unfolding outcome
-    ended-done none e h = let z : _≡_ {A = ℕ} 0 1 = cc in absurd (omega arith)
-    ended-done (some t end) e h =
-        let k : end ≡ next = cc in
-        let l : to ≡ 0 + length (listingOf t) = cc in
-        let b : exit ≡ sets entry 0 (listingOf t) = cc in
-        rw (k, eq-eqb next (length s) h) (l ∙ zero-add (length (listingOf t)), b)
-
-module _ (s entry exit : List ℕ) (v : Num) (is : v ≡ numOf (number 32 s 0)) where
-  pub record-unversioned : not (v .ok) ≡ true → Unpacked (readRecord s) entry exit 0
-  unfolding readRecord
-  record-unversioned h = rw (num-none (number 32 s 0) v is h) refl
-
-  module _ (found : not (v .ok) ≡ false) where
-    pub record-version : (v .value ≡ 1 → ⊥) → Unpacked (readRecord s) entry exit 0
-    unfolding readRecord
-    record-version h = rw (num-some (number 32 s 0) v is found, ne-eqb (v .value) 1 h) refl
-
-    module _ (one : v .value ≡ 1) where
-      record-is : readRecord s ≡ ended s (fieldsAt packedReader s (v .next))
-      unfolding readRecord
-      record-is = rw (num-some (number 32 s 0) v is found, eq-eqb (v .value) 1 one)
-
-      module _ (f : Num) (such : f ≡ numOf (limited 3 s (v .next))) where
-        pub record-flags : not (f .ok) ≡ true → Unpacked (readRecord s) entry exit 0
-        record-flags h = rw (record-is, fields-is s (v .next), num-none (limited 3 s (v .next)) f such h) refl
-
-        module _ (flagged : not (f .ok) ≡ false) (p : Num) (so : p ≡ numOf (number 64 s (f .next))) where
-          pub record-privileges : not (p .ok) ≡ true → Unpacked (readRecord s) entry exit 0
-          record-privileges h =
-              rw (record-is, fields-is s (v .next), num-some (limited 3 s (v .next)) f such flagged, num-none (number 64 s (f .next)) p so h) refl
-
-          module _ (privileged : not (p .ok) ≡ false) where
-            people : Read Token
-            people = peopleAt packedReader (f .value) (p .value) s (p .next)
-
-            record-people : readRecord s ≡ ended s people
-            unfolding people
-            record-people =
-                rw (
-                  record-is,
-                  fields-is s (v .next),
-                  num-some (limited 3 s (v .next)) f such flagged,
-                  num-some (number 64 s (f .next)) p so privileged,
-                )
-
-            people-outcome :
-                outcome (written listingOf people) entry 0
-                ≡ outcome (peopleOf (f .value) s (p .next)) (sets (sets entry 0 (little 4 (f .value))) 4 (little 8 (p .value))) 12
-            unfolding little people
-            people-outcome =
-                ap (λ (x : Read (List ℕ)). outcome x entry 0) (listing-is (f .value) (p .value) s (p .next))
-                ∙ then-some (peopleOf (f .value) s) entry 0 (little 4 (f .value) ++ little 8 (p .value)) (p .next)
-
-            pub record-refused :
-                outcome (peopleOf (f .value) s (p .next)) (sets (sets entry 0 (little 4 (f .value))) 4 (little 8 (p .value))) 12 ≡ refused →
-                Unpacked (readRecord s) entry exit 0
-            record-refused e = rw record-people (ended-refused s entry exit people (people-outcome ∙ e))
-
-            module _ (to next : ℕ)
-                (e : outcome (peopleOf (f .value) s (p .next)) (sets (sets entry 0 (little 4 (f .value))) 4 (little 8 (p .value))) 12 ≡ done exit to next) where
-              pub record-longer : (next ≡ length s → ⊥) → Unpacked (readRecord s) entry exit 0
-              record-longer h = rw record-people (ended-longer s entry exit to next people (people-outcome ∙ e) h)
-
-              pub record-done : next ≡ length s → Unpacked (readRecord s) entry exit to
-              record-done h = rw record-people (ended-done s entry exit to next people (people-outcome ∙ e) h)

@@ -1,19 +1,17 @@
 -- The packed record as a format: its numbers and its identities are read back and have one form (packed-format).
 -- In order: a number (number-kept), the words of an identity (words-..), an identity (packed-identity-kept).
 -- Assumes nothing.
-use Prim.Native.Nat.{ℕ, zero, suc, _+_, _-_, _*_, _/_, _%_, _^_, _<_, _≤_}
+use Prim.Native.Nat.{ℕ, zero, suc, _+_, _*_, _^_, _<_, _≤_}
 use mathlib.Core.Path.{_≡_, refl, sym, ap, ap₂, _∙_}
 use mathlib.Core.List.{List, [], _∷_, _++_, append-nil}
-use mathlib.Core.Bool.{Bool, true, false, cond}
 use native.Mathlib.Omega.{arith}
-use native.Mathlib.Nat.{add-zero}
 use lib.Dec.{T, leb}
 use lib.Pow.{areBytes}
-use lib.ListN.{length, drop, length-append}
+use lib.ListN.{length, length-append}
 use lib.Seq.{drop-at}
 use borrow.Author.Tests.{lt-ltb, le-leb, leb-true}
-use Rattle.base.specs.Bytes.{Read, bind, only, byteAt, u32At, u48BeAt, part, little, big}
-use Rattle.base.specs.Bytes.Read.{none, some}
+use Rattle.base.specs.Bytes.{byteAt, u32At, u48BeAt, part, little, big}
+use Rattle.base.specs.Bytes.Read.{some}
 use Rattle.base.specs.Sevens.{number, packed}
 use Rattle.base.proofs.BytesLaws.{part-append, part-whole, part-empty, part-cons, bytes-append}
 use Rattle.base.proofs.ValueLaws.{length-little, length-big, little-bytes, big-bytes}
@@ -23,7 +21,8 @@ use Rattle.lists.proofs.SidLaws.{sid-shape, sid-of-shape}
 use Rattle.tokens.specs.Shaped.{All, Identity}
 use Rattle.tokens.specs.Fields.{many, each}
 use Rattle.tokens.specs.TokenRecord.{packedIdentity, packedReader, packedWords, packIdentity, packedWriter}
-use Rattle.tokens.proofs.FormatLaws.{length-three, Stands, stands-end, stands-left, stands-right, Formed, formed-append, formed-same, bound, allowed, moved, Kept, many-back, many-form}
+use Rattle.tokens.proofs.FormatLaws.{length-three, Stands, stands-left, stands-right, Formed, formed-append, formed-same, bound}
+use Rattle.tokens.proofs.FormatLaws.{allowed, moved, Kept, many-back, many-form}
 use Rattle.tokens.proofs.FieldsLaws.{Format}
 
 -- ---- numbers
@@ -116,7 +115,8 @@ sid-bytes w o =
     let b : part w 1 (length w) ≡ byteAt w 1 ∷ part w 2 (length w) = part-cons w 1 (length w) (omega arith) (omega arith) in
     let c : part w 2 8 ++ part w 8 (length w) ≡ part w 2 (length w) = part-append w 2 8 (length w) (omega arith) (omega arith) in
     let d : part w 2 8 ≡ big 6 (u48BeAt w 2) = big-of-u48 w 2 (o .bytes) (omega arith) in
-    let e : part w 8 (length w) ≡ each (little 4) (wordsAt (byteAt w 1) w 8) = words-little (byteAt w 1) w 8 (length w) (o .bytes) l (omega arith) in
+    let e : part w 8 (length w) ≡ each (little 4) (wordsAt (byteAt w 1) w 8) =
+    words-little (byteAt w 1) w 8 (length w) (o .bytes) l (omega arith) in
     sym (sym (part-whole w) ∙ a ∙ ap₂ _∷_ (x .one) (b ∙ ap (λ (l : List ℕ). byteAt w 1 ∷ l) (sym c ∙ ap₂ _++_ d e)))
 
 module _ (n v : ℕ) (ws : List ℕ) (long : length ws ≡ n) (few : n ≤ 15) (fits : v < 2 ^ 48) (each-fits : All (λ x. x < 2 ^ 32) ws) where
@@ -165,14 +165,17 @@ packed-identity-kept =
           let f = d .few in
           let m : many (number 32) n s (at + length (packed n) + length (packed v)) ≡
           some ws (at + length (packed n) + length (packed v) + length (each packed ws)) =
-          rw length-words at (many-back number-32 ws (words-fit (byteAt w 1) w 8 (o .bytes)) (stands-right (packed v) (each packed ws) y)) in
+          let r = many-back number-32 ws (words-fit (byteAt w 1) w 8 (o .bytes)) (stands-right (packed v) (each packed ws) y) in
+          rw length-words at r in
           rw (
             number-32 .back (byteAt w 1) (omega arith) (stands-left (packed n) (packed v ++ each packed ws) e),
             le-leb (byteAt w 1) 15 f,
             number-48 .back (u48BeAt w 2) (u48-be-at-lt w 2 (o .bytes)) (stands-left (packed v) (each packed ws) y),
             m,
           )
-          (ap₂ some (sid-bytes w o) (length-three at (packed n) (packed v) (each packed ws) ∙ ap (λ (l : List ℕ). at + length (packed n ++ (packed v ++ l))) (sym (words-packed (byteAt w 1) w 8))));
+          (ap₂ some (sid-bytes w o)
+          (length-three at (packed n) (packed v) (each packed ws)
+          ∙ ap (λ (l : List ℕ). at + length (packed n ++ (packed v ++ l))) (sym (words-packed (byteAt w 1) w 8))));
       form = λ {s} {at} b i e.
           let x = bound _ _ _ _ e in
           let l = allowed (leb (x .a) 15) _ _ _ (x .then) in

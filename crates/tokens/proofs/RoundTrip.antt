@@ -1,10 +1,10 @@
 -- What is written of a token is read back, and what is read is written so.
--- In order: the listing (listing-back, listing-form), the record (record-back, record-form), what an accepted conversion is (accepted), the two
--- converters one after the other (there-and-back, back-and-there). Their lengths are in LimitLaws.
+-- In order: the listing (listing-back, listing-form), the record (record-back, record-form), what an accepted conversion is (accepted), the
+-- two converters one after the other (there-and-back, back-and-there, as-listing-inj, as-record-inj). Their lengths are in LimitLaws.
 -- Assumes nothing.
-use Prim.Native.Nat.{ℕ, zero, suc, _+_, _-_, _*_, _^_, _<_, _≤_}
-use mathlib.Core.Path.{_≡_, refl, sym, ap, ap₂, _∙_}
-use mathlib.Core.List.{List, [], _∷_, _++_}
+use Prim.Native.Nat.{ℕ, _+_}
+use mathlib.Core.Path.{_≡_, refl, sym, ap, _∙_}
+use mathlib.Core.List.{List, _++_}
 use mathlib.Core.Bool.{Bool, true, false, cond}
 use native.Mathlib.Nat.{zero-add}
 use native.Mathlib.Omega.{arith}
@@ -12,18 +12,19 @@ use lib.Dec.{T, eqb}
 use lib.Pow.{areBytes}
 use lib.ListN.{length}
 use borrow.Author.Tests.{eq-eqb, eqb-true}
-use Rattle.base.specs.Bytes.{Read, bind, only, part}
+use Rattle.base.specs.Bytes.{Read, part}
 use Rattle.base.specs.Bytes.Read.{none, some}
 use Rattle.base.proofs.BytesLaws.{part-whole}
 use Rattle.base.specs.Sevens.{number, packed}
 use Rattle.tokens.specs.Token.{Token}
 use Rattle.tokens.specs.Shaped.{Shaped}
-use Rattle.tokens.specs.Fields.{fieldsAt, fieldsBytes, ended}
+use Rattle.tokens.specs.Fields.{fieldsAt, fieldsBytes}
 use Rattle.tokens.specs.FlatListing.{readListing, listingOf, flatReader, flatWriter}
 use Rattle.tokens.specs.TokenRecord.{readRecord, recordOf, packedReader, packedWriter}
 use Rattle.tokens.specs.TokenRules.{keeps}
 use Rattle.tokens.specs.Converters.{Conversion, converted, result, refusal, asListing, asRecord}
-use Rattle.tokens.proofs.FormatLaws.{length-two, stands-left, stands-right, stands-whole, formed-append, formed-same, bound, allowed, moved}
+use Rattle.tokens.proofs.FormatLaws.{length-two, stands-left, stands-right, stands-whole, formed-append, formed-same, bound}
+use Rattle.tokens.proofs.FormatLaws.{allowed, moved}
 use Rattle.tokens.proofs.FieldsLaws.{fields-kept}
 use Rattle.tokens.proofs.ListingLaws.{flat-format}
 use Rattle.tokens.proofs.RecordLaws.{number-32, packed-format}
@@ -96,7 +97,8 @@ accepted f (some t n) bs e = go (keeps t) refl e
     go false k q = let z : _≡_ {A = ℕ} 4 0 = ap (λ (c : Conversion). c .status) q in absurd (omega arith)
 
 -- and the other way: what is read of a token that keeps the rules is converted
-pub converted-kept : (f : Token → List ℕ) (r : Read Token) (t : Token) (n : ℕ) → r ≡ some t n → keeps t ≡ true → converted f r ≡ result (f t)
+pub converted-kept : (f : Token → List ℕ) (r : Read Token) (t : Token) (n : ℕ) → r ≡ some t n → keeps t ≡ true →
+    converted f r ≡ result (f t)
 converted-kept f r t n e k = rw (e, k)
 
 pub there-and-back : (s l : List ℕ) → T (areBytes s) → asListing s ≡ result l → asRecord l ≡ result s
@@ -116,3 +118,12 @@ back-and-there l s b e =
     let r : readRecord s ≡ some (a .token) (length (recordOf (a .token))) =
     ap readRecord (sym (a .written)) ∙ record-back (a .token) (f .1) in
     converted-kept listingOf (readRecord s) (a .token) (length (recordOf (a .token))) r (a .kept) ∙ ap result (sym (f .0))
+
+-- so no two records have one listing, and no two listings one record
+pub as-listing-inj : (s s′ l : List ℕ) → T (areBytes s) → T (areBytes s′) → asListing s ≡ result l → asListing s′ ≡ result l → s ≡ s′
+as-listing-inj s s′ l b b′ e e′ =
+    ap (λ (c : Conversion). c .bytes) (sym (there-and-back s l b e) ∙ there-and-back s′ l b′ e′)
+
+pub as-record-inj : (l l′ s : List ℕ) → T (areBytes l) → T (areBytes l′) → asRecord l ≡ result s → asRecord l′ ≡ result s → l ≡ l′
+as-record-inj l l′ s b b′ e e′ =
+    ap (λ (c : Conversion). c .bytes) (sym (back-and-there l s b e) ∙ back-and-there l′ s b′ e′)

@@ -1,11 +1,11 @@
 -- Laws of unpacking: what is written of a number, byte by byte; what readings come to, one after the other.
 -- In order: stores of a number's bytes, stores one after the other, numbers as the code answers them, outcomes of readings in a row.
 -- Assumes nothing.
-use Prim.Native.Nat.{ℕ, zero, suc, _+_, _-_, _*_, _/_, _%_, _^_, _<_, _≤_}
+use Prim.Native.Nat.{ℕ, zero, suc, _+_, _-_, _/_, _%_, _<_, _≤_}
 use mathlib.Core.Path.{_≡_, refl, sym, ap, ap₂, _∙_}
-use mathlib.Core.List.{List, [], _∷_, _++_, append-assoc}
-use mathlib.Core.Bool.{Bool, true, false, cond, not}
-use native.Mathlib.Nat.{add-zero, add-assoc}
+use mathlib.Core.List.{List, [], _∷_, _++_}
+use mathlib.Core.Bool.{Bool, true, false, not}
+use native.Mathlib.Nat.{add-zero}
 use native.Mathlib.Numerals.{add-one}
 use native.Mathlib.Omega.{arith}
 use borrow.Author.Tests.{not-true, not-false, le-leb, lt-leb, eq-eqb, ne-eqb}
@@ -19,7 +19,7 @@ use Rattle.base.specs.Sevens.{number, numOf}
 use Rattle.base.specs.declared.sevens.Num.{Num}
 use Rattle.tokens.specs.Token.{confined}
 use Rattle.tokens.specs.Fields.{many, each}
-use Rattle.tokens.specs.Unpacking.{written, then, copied, Outcome, outcome, left, limited, wordAt, counted, groupOf, confinementOf, restOf, peopleOf}
+use Rattle.tokens.specs.Unpacking.{written, then, copied, outcome, left, limited, wordAt, counted, confinementOf, restOf}
 use Rattle.tokens.specs.TokenRecord.{packedIdentity}
 use Rattle.tokens.specs.declared.unpack.Step.{Step}
 use Rattle.tokens.specs.Unpacking.Outcome.{refused, done}
@@ -30,7 +30,8 @@ pub put-none : (out : List ℕ) (to n v : ℕ) → n ≡ 0 → sets out to (litt
 unfolding little
 put-none out to n v e = rw e
 
-pub put-more : (out : List ℕ) (to n v : ℕ) → 0 < n → sets out to (little n v) ≡ sets (set out to (v % 256)) (to + 1) (little (n - 1) (v / 256))
+pub put-more : (out : List ℕ) (to n v : ℕ) → 0 < n → sets out to (little n v)
+    ≡ sets (set out to (v % 256)) (to + 1) (little (n - 1) (v / 256))
 unfolding little
 put-more out to zero v h = absurd (omega arith)
 put-more out to (suc n) v h =
@@ -166,7 +167,8 @@ module _ (s : List ℕ) (at : ℕ) (out : List ℕ) (o : ℕ) (r : Num) (is : r 
   word-done h = rw (num-some (number 32 s at) r is h)
 
 -- a count and what follows it
-module _ (most : ℕ) (s : List ℕ) (at : ℕ) (k : ℕ → ℕ → Read (List ℕ)) (out : List ℕ) (o : ℕ) (r : Num) (is : r ≡ numOf (limited most s at)) where
+module _ (most : ℕ) (s : List ℕ) (at : ℕ) (k : ℕ → ℕ → Read (List ℕ)) (out : List ℕ) (o : ℕ) (r : Num)
+    (is : r ≡ numOf (limited most s at)) where
   pub counted-refused : not (r .ok) ≡ true → outcome (counted most s at k) out o ≡ refused
   unfolding outcome
   counted-refused h = rw (num-none (limited most s at) r is h)
@@ -187,12 +189,14 @@ written-append h g (some a end) = refl
 
 -- things of one kind, as what is written of each
 many-next : {A : Type 0} (g : A → List ℕ) (q : Read A) (k : ℕ → Read (List A)) (l : ℕ → Read (List ℕ)) →
-    ((b : ℕ) → written (each g) (k b) ≡ l b) → written (each g) (bind q (λ a b. bind (k b) (λ xs end. some (a ∷ xs) end))) ≡ then (written g q) l
+    ((b : ℕ) → written (each g) (k b) ≡ l b) → written (each g) (bind q (λ a b. bind (k b) (λ xs end. some (a ∷ xs) end)))
+    ≡ then (written g q) l
 unfolding each
 many-next g none k l e = refl
 many-next {A} g (some a b) k l e = go (k b) ∙ ap (λ (x : Read (List ℕ)). bind x (λ v end. some (g a ++ v) end)) (e b)
   where
-    go : (q : Read (List A)) → written (each g) (bind q (λ xs end. some (a ∷ xs) end)) ≡ bind (written (each g) q) (λ v end. some (g a ++ v) end)
+    go : (q : Read (List A)) → written (each g) (bind q (λ xs end. some (a ∷ xs) end))
+        ≡ bind (written (each g) q) (λ v end. some (g a ++ v) end)
     go none = refl
     go (some xs end) = refl
 
@@ -233,15 +237,19 @@ module _ (flags : ℕ) (s : List ℕ) (at : ℕ) (out : List ℕ) (o : ℕ) wher
 -- ---- an identity
 
 identity-words : (s : List ℕ) (n v b : ℕ) →
-    bind (many (number 32) n s b) (λ ws end. some (1 ∷ n ∷ (big 6 v ++ each (little 4) ws)) end) ≡ then (some (1 ∷ n ∷ big 6 v) b) (copied wordAt n s)
+    bind (many (number 32) n s b) (λ ws end. some (1 ∷ n ∷ (big 6 v ++ each (little 4) ws)) end)
+    ≡ then (some (1 ∷ n ∷ big 6 v) b) (copied wordAt n s)
 identity-words s n v b =
     written-append (1 ∷ n ∷ big 6 v) (each (little 4)) (many (number 32) n s b)
-    ∙ ap (λ (x : Read (List ℕ)). bind x (λ w end. some ((1 ∷ n ∷ big 6 v) ++ w) end)) (many-copied (number 32) (little 4) wordAt s (λ a. refl) n b)
+    ∙ ap (λ (x : Read (List ℕ)). bind x (λ w end. some ((1 ∷ n ∷ big 6 v) ++ w) end))
+    (many-copied (number 32) (little 4) wordAt s (λ a. refl) n b)
 
 identity-is : (s : List ℕ) (at : ℕ) →
-    packedIdentity s at ≡ bind (limited 15 s at) (λ n a. bind (number 48 s a) (λ v b. bind (many (number 32) n s b) (λ ws end. some (1 ∷ n ∷ (big 6 v ++ each (little 4) ws)) end)))
+    packedIdentity s at ≡ bind (limited 15 s at)
+    (λ n a. bind (number 48 s a) (λ v b. bind (many (number 32) n s b) (λ ws end. some (1 ∷ n ∷ (big 6 v ++ each (little 4) ws)) end)))
 unfolding packedIdentity
-identity-is s at = limited-bind (number 32 s at) 15 (λ n a. bind (number 48 s a) (λ v b. bind (many (number 32) n s b) (λ ws end. some (1 ∷ n ∷ (big 6 v ++ each (little 4) ws)) end)))
+identity-is s at = limited-bind (number 32 s at) 15
+    (λ n a. bind (number 48 s a) (λ v b. bind (many (number 32) n s b) (λ ws end. some (1 ∷ n ∷ (big 6 v ++ each (little 4) ws)) end)))
 
 module _ (s : List ℕ) (at : ℕ) (out : List ℕ) (o : ℕ) (r : Num) (is : r ≡ numOf (limited 15 s at)) where
   pub identity-uncounted : not (r .ok) ≡ true → outcome (packedIdentity s at) out o ≡ refused
@@ -258,5 +266,11 @@ module _ (s : List ℕ) (at : ℕ) (out : List ℕ) (o : ℕ) (r : Num) (is : r 
         ≡ outcome (copied wordAt (r .value) s (t .next)) (sets (set (set out o 1) (o + 1) (r .value)) (o + 2) (big 6 (t .value))) (o + 8)
     unfolding big
     identity-done k =
-        rw (identity-is s at, num-some (limited 15 s at) r is h, num-some (number 48 s (r .next)) t such k, identity-words s (r .value) (t .value) (t .next))
+        rw (
+          identity-is s at,
+          num-some (limited 15 s at) r is h,
+          num-some (number 48 s (r .next)) t such k,
+          identity-words s (r .value)
+              (t .value) (t .next),
+        )
         (then-some (copied wordAt (r .value) s) out o (1 ∷ r .value ∷ big 6 (t .value)) (t .next) ∙ simp (add-one, add-two))

@@ -1,15 +1,21 @@
--- What the judge of a flat listing answers, and what it keeps on its walk. `judgedOf` is the answer; the rest is for the contracts of its parts.
+-- What the judge of a flat listing answers, and what it keeps on its walk. `judgedOf` is the answer; the rest is for the contracts of
+-- its parts.
 use Prim.Native.Nat.{ℕ}
+use mathlib.Core.Path.{_≡_}
 use mathlib.Core.List.{List}
 use mathlib.Core.Bool.{Bool, cond, not, _||_}
+use lib.ListN.{length, take}
 use Rattle.base.specs.Bytes.{Read, bind}
 use Rattle.base.specs.Bytes.Read.{none, some}
 use Rattle.tokens.specs.Token.{Confined, Token, confined, exempt}
 use Rattle.tokens.specs.Crowd.{confinedPlace}
 use Rattle.tokens.specs.TokenRules.{virtual, virtualIn, lists, allRestricted, keeps}
-use Rattle.tokens.specs.declared.judge.Judged.{Judged}
-use Rattle.tokens.specs.declared.judge.Walk.{Walk}
-use Rattle.tokens.specs.declared.judge.Marks.{Marks}
+use Rattle.tokens.specs.TokenRecord.{readRecord}
+use Rattle.tokens.specs.Converters.{asListing}
+use Rattle.tokens.specs.declared.flat.Listing.{Listing}
+use Rattle.tokens.specs.declared.judging.Judged.{Judged}
+use Rattle.tokens.specs.declared.judging.Walk.{Walk}
+use Rattle.tokens.specs.declared.judging.Marks.{Marks}
 
 -- 3 where the listing is misshapen, 4 where its token breaks a token rule, else 0 and where the confinement identity stands
 unfoldable pub judgedOf : Read Token → Judged
@@ -44,3 +50,12 @@ confinementBreaks c = virtual (c .identity) || virtualIn (c .capabilities) || no
 -- the token rules on what follows the groups: the confinement, or an exemption without one
 abbrev pub restBreaks : ℕ → Confined → Bool
 restBreaks flags c = cond (confined flags) (confinementBreaks c) (exempt flags)
+
+-- ---- a record's listing in a buffer of its own
+
+-- status, length and bytes are those of the conversion, and the place is that of the token; all 0 and empty on refusal
+pub record Listed (s : List ℕ) (r : Listing) : Type 0 where
+  pub status : r .status ≡ asListing s .status
+  pub long : r .length ≡ length (asListing s .bytes)
+  pub bytes : take (r .length) (r .bytes) ≡ asListing s .bytes
+  pub place : r .«confined_at» ≡ judgedOf (readRecord s) .«confined_at»

@@ -19,3 +19,5 @@ pub mod Converters
 pub mod Unpacking
 -- what the judge of a listing answers
 pub mod Judging
+-- what packing writes, by place
+pub mod Packing

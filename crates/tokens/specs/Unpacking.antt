@@ -1,7 +1,7 @@
 -- What unpacking leaves in a buffer: a reading of bytes, written as it goes. For the contracts of the private readers.
 use Prim.Native.Nat.{ℕ, zero, suc, _+_}
 use mathlib.Core.Path.{_≡_}
-use mathlib.Core.List.{List, [], _∷_, _++_}
+use mathlib.Core.List.{List, [], _++_}
 use mathlib.Core.Bool.{Bool, true, false, cond}
 use lib.ListN.{length}
 use lib.Seq.{sets}

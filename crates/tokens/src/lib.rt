@@ -1,7 +1,15 @@
 // Token records, flat listings and the two converters.
-
-mod judge;
+mod flat;
+mod judging;
+mod pack;
 mod unpack;
+
+pub use flat::Listing;
+pub use flat::listing_of;
+pub use flat::to_listing;
+pub use judging::Judged;
+pub use judging::judge;
+pub use pack::to_record;
 
 // A group's attribute word. A rights mask is another type, so that the two cannot change places.
 pub struct Attributes(pub u32);

@@ -12,7 +12,7 @@ ghost use Rattle.tokens.specs.Unpacking.{confinementOf, peopleOf, Unpack
 ghost use Rattle.tokens.specs.TokenRecord.{readRecord};
 use base::Num;
 
-// The place after what was read, and after what was written of it. Both are 0 where nothing was read.
+// The place after what was read, and after what was written of it. Not ok where nothing was read.
 pub struct Step {
     pub ok: bool,
     pub next: usize,

@@ -3,9 +3,10 @@
 use Prim.Native.Nat.{_≤_, _-_}
 use mathlib.Core.Path.{_≡_, refl, sym, _∙_}
 use native.Mathlib.Omega.{arith}
+use borrow.Author.Needs.{needs}
 use lib.ListN.{length, drop}
 use Rattle.base.specs.Bytes.{same}
-use Rattle.base.proofs.BytesLaws.{same-false-of-length, same-hit, same-miss, same-end}
+use Rattle.base.proofs.BytesLaws.{same-false-of-length, unlike-same, same-hit, same-miss, same-end}
 use Rattle.base.proofs.bytes.same.Statement.{statement}
 use Rattle.base.proofs.bytes.same.Tie as tie
 
@@ -18,20 +19,26 @@ abbrev μ-loop : tie.MeasureT-loop
 returns : tie.Need-returns Inv-loop μ-loop
 returns c = sym (same-false-of-length _ _ (c .if1 .taken))
 
+unlike-requires : tie.Need-unlike-requires Inv-loop μ-loop
+unlike-requires c κs = search needs
+
+returns-2 : tie.Need-returns-2 Inv-loop μ-loop
+returns-2 c = sym (unlike-same _ _ (sym (c .before .unlike .ensures) ∙ c .if2 .taken))
+
 loop-holds : tie.Need-loop-holds Inv-loop μ-loop
 loop-holds c = (omega arith, refl)
 
-shared-slice-read-if2 : tie.Need-shared-slice-read-if2 Inv-loop μ-loop
-shared-slice-read-if2 c = omega arith
+shared-slice-read-if3 : tie.Need-shared-slice-read-if3 Inv-loop μ-loop
+shared-slice-read-if3 c = omega arith
 
-shared-slice-read-if2-2 : tie.Need-shared-slice-read-if2-2 Inv-loop μ-loop
-shared-slice-read-if2-2 c = omega arith
+shared-slice-read-if3-2 : tie.Need-shared-slice-read-if3-2 Inv-loop μ-loop
+shared-slice-read-if3-2 c = omega arith
 
-returns-2 : tie.Need-returns-2 Inv-loop μ-loop
-returns-2 c =
+returns-3 : tie.Need-returns-3 Inv-loop μ-loop
+returns-3 c =
     let at-loop = c .before .before .before .before in
-    let a = at-loop .before .before .args in
-    sym (at-loop .loop .inv .1 ∙ same-miss (a .a .now) (a .b .now) (at-loop .loop .i) (omega arith) (omega arith) (c .if2 .taken))
+    let a = at-loop .before .before .before .before .before .before .args in
+    sym (at-loop .loop .inv .1 ∙ same-miss (a .a .now) (a .b .now) (at-loop .loop .i) (omega arith) (omega arith) (c .if3 .taken))
 
 add-i : tie.Need-add-i Inv-loop μ-loop
 add-i c = omega arith
@@ -42,15 +49,15 @@ loop-less c = omega arith
 loop-again : tie.Need-loop-again Inv-loop μ-loop
 loop-again c =
     let at-loop = c .before .before .before .before in
-    let a = at-loop .before .before .args in (
+    let a = at-loop .before .before .before .before .before .before .args in (
       omega arith,
-      at-loop .loop .inv .1 ∙ same-hit (a .a .now) (a .b .now) (at-loop .loop .i) (omega arith) (omega arith) (c .if2 .left),
+      at-loop .loop .inv .1 ∙ same-hit (a .a .now) (a .b .now) (at-loop .loop .i) (omega arith) (omega arith) (c .if3 .left),
     )
 
-returns-3 : tie.Need-returns-3 Inv-loop μ-loop
-returns-3 c =
+returns-4 : tie.Need-returns-4 Inv-loop μ-loop
+returns-4 c =
     let at-loop = c .before in
-    let a = at-loop .before .before .args in
+    let a = at-loop .before .before .before .before .before .before .args in
     sym (at-loop .loop .inv .1 ∙ same-end (a .a .now) (a .b .now) (at-loop .loop .i) (omega arith) (omega arith))
 
 pub same-spec : {M : Type 1} → statement M
@@ -60,11 +67,13 @@ same-spec =
     Inv-loop
     μ-loop
     returns
-    loop-holds
-    shared-slice-read-if2
-    shared-slice-read-if2-2
+    unlike-requires
     returns-2
+    loop-holds
+    shared-slice-read-if3
+    shared-slice-read-if3-2
+    returns-3
     add-i
     loop-less
     loop-again
-    returns-3)
+    returns-4)

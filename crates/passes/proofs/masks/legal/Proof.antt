@@ -1,19 +1,16 @@
-use Rattle.base.specs.Bits.{and, or, flip, has, covers}
-use Rattle.passes.specs.KindsAndMasks.{table, right, mapped, entryMask, legal, explicit, asked, allBits, maximum}
-use Prim.Native.Nat.{ℕ, suc, _≤_, _<_, _-_, _+_}
-use mathlib.Core.Path.{_≡_, refl, sym, ap, ap₂, _∙_}
+-- `legal` meets its contract, from what `all_bits` gives.
+-- Assumes nothing.
+use Prim.Native.Nat.{ℕ}
+use mathlib.Core.Path.{ap}
 use borrow.Author.Needs.{needs}
+use Rattle.base.specs.Bits.{or, covers}
+use Rattle.passes.specs.KindsAndMasks.{legal}
 use Rattle.passes.proofs.masks.legal.Statement.{statement}
 use Rattle.passes.proofs.masks.legal.Tie as tie
-use Rattle.passes.proofs.masks.legal.Reads as reads
-use Rattle.passes.proofs.masks.legal.Lts as lts
-use Rattle.passes.proofs.masks.all_bits.Reads as all-bits-reads
 
--- src/masks.rt:64:32
 all-bits-requires : tie.Need-all-bits-requires
 all-bits-requires c κs = search needs
 
--- src/masks.rt:61:1
 returns : tie.Need-returns
 unfolding legal
 returns c =

@@ -1,87 +1,67 @@
+-- `mapped` meets its contract: each generic bit gives the right of its column, in the kind's row.
+-- Assumes nothing.
+use Prim.Native.Nat.{ℕ}
+use mathlib.Core.Bool.{cond}
 use mathlib.Core.List.{[]}
-use Rattle.base.specs.Bits.{and, or, flip, has, covers}
-use mathlib.Core.Bool.{Bool, true, false, cond, not, _&&_, _||_}
-use Rattle.passes.specs.KindsAndMasks.{table, right, mapped, entryMask, legal, explicit, asked, allBits, maximum}
-use lib.ListN.{length, getD}
-use Prim.Native.Nat.{ℕ, suc, _≤_, _<_, _-_, _+_}
-use mathlib.Core.Path.{_≡_, refl, sym, ap, ap₂, _∙_}
+use mathlib.Core.Path.{ap, ap₂, _∙_}
 use borrow.Author.Needs.{needs}
+use lib.ListN.{getD}
+use Rattle.base.specs.Bits.{and, or, has}
+use Rattle.passes.specs.KindsAndMasks.{table, right, mapped}
 use Rattle.passes.proofs.masks.mapped.Statement.{statement}
 use Rattle.passes.proofs.masks.mapped.Tie as tie
-use Rattle.passes.proofs.masks.mapped.Reads as reads
-use Rattle.passes.proofs.masks.mapped.Lts as lts
-use Rattle.passes.proofs.masks.row.Reads as row-reads
-use Rattle.passes.proofs.masks.when.Reads as when-reads
 
--- src/masks.rt:45:9
 row-requires : tie.Need-row-requires
 row-requires c κs = search needs
 
--- src/masks.rt:46:47
 mul-when : tie.Need-mul-when
 mul-when c = search needs
 
--- src/masks.rt:46:47
 index-1-when : tie.Need-index-1-when
 index-1-when c = search needs
 
--- src/masks.rt:46:47
 index-2-when : tie.Need-index-2-when
 index-2-when c = search needs
 
--- src/masks.rt:46:9
 when-requires : tie.Need-when-requires
 when-requires c κs = search needs
 
--- src/masks.rt:47:49
 mul-when-2 : tie.Need-mul-when-2
 mul-when-2 c = search needs
 
--- src/masks.rt:47:49
 index-1-when-2 : tie.Need-index-1-when-2
 index-1-when-2 c = search needs
 
--- src/masks.rt:47:49
 index-2-when-2 : tie.Need-index-2-when-2
 index-2-when-2 c = search needs
 
--- src/masks.rt:47:9
 when-requires-2 : tie.Need-when-requires-2
 when-requires-2 c κs = search needs
 
--- src/masks.rt:48:53
 mul-when-3 : tie.Need-mul-when-3
 mul-when-3 c = search needs
 
--- src/masks.rt:48:53
 index-1-when-3 : tie.Need-index-1-when-3
 index-1-when-3 c = search needs
 
--- src/masks.rt:48:53
 index-2-when-3 : tie.Need-index-2-when-3
 index-2-when-3 c = search needs
 
--- src/masks.rt:48:9
 when-requires-3 : tie.Need-when-requires-3
 when-requires-3 c κs = search needs
 
--- src/masks.rt:49:45
 mul-when-4 : tie.Need-mul-when-4
 mul-when-4 c = search needs
 
--- src/masks.rt:49:45
 index-1-when-4 : tie.Need-index-1-when-4
 index-1-when-4 c = search needs
 
--- src/masks.rt:49:45
 index-2-when-4 : tie.Need-index-2-when-4
 index-2-when-4 c = search needs
 
--- src/masks.rt:49:9
 when-requires-4 : tie.Need-when-requires-4
 when-requires-4 c κs = search needs
 
--- src/masks.rt:41:1
 returns : tie.Need-returns
 unfolding mapped right
 returns c =
@@ -89,7 +69,8 @@ returns c =
     let r = c .before .before .before .before .before .before .before .before .before .row .ensures .0 in
     let read = c .before .before .before .before .before .before .before .when .ensures
     ∙ ap (λ (n : ℕ). cond (has m 0x80000000) (getD (getD table n []) 0 0) 0) r in
-    let write = c .before .before .before .before .before .when2 .ensures ∙ ap (λ (n : ℕ). cond (has m 0x40000000) (getD (getD table n []) 1 0) 0) r in
+    let write = c .before .before .before .before .before .when2 .ensures
+    ∙ ap (λ (n : ℕ). cond (has m 0x40000000) (getD (getD table n []) 1 0) 0) r in
     let execute = c .before .before .before .when3 .ensures ∙ ap (λ (n : ℕ). cond (has m 0x20000000) (getD (getD table n []) 2 0) 0) r in
     let all = c .before .when4 .ensures ∙ ap (λ (n : ℕ). cond (has m 0x10000000) (getD (getD table n []) 3 0) 0) r in
     ap (λ (n : ℕ). or (and m 0x0FFFFFFF) n) (ap₂ or read (ap₂ or write (ap₂ or execute all)))

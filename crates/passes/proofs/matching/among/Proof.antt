@@ -1,23 +1,19 @@
+-- `among` meets its contract. The loop's invariant: the seat lies inside the listing, and the members from it on match as the whole crowd
+-- does. The measure is how many members are left.
+-- Assumes nothing.
+use Prim.Native.Nat.{_≤_, _-_}
+use mathlib.Core.List.{List}
+use mathlib.Core.Path.{_≡_, sym, ap, _∙_}
+use native.Mathlib.Omega.{arith}
+use borrow.Author.Needs.{needs}
+use lib.ListN.{length}
+use Rattle.tokens.specs.Crowd.{Member, crowdAt}
+use Rattle.passes.specs.Matching.{among}
+use Rattle.passes.specs.Seats.{fromSeat}
 use Rattle.passes.proofs.SearchLaws.{among-none, among-hit, among-last, among-more}
 use Rattle.passes.proofs.SeatsLaws.{crowd-start}
-use Rattle.passes.specs.Seats.{fromSeat}
-use Rattle.passes.specs.Matching.{among}
-use Rattle.tokens.specs.Crowd.{Member, crowdAt}
-use lib.ListN.{length, getD}
-use mathlib.Core.List.{List}
-use borrow.Author.Needs.{needs}
-use native.Mathlib.Omega.{arith}
-use borrow.Author.Tests.{lt-ltb, le-ltb, le-leb, lt-leb, eq-eqb, ne-eqb, not-true, not-false}
-use Prim.Native.Nat.{ℕ, suc, _≤_, _<_, _-_, _+_}
-use mathlib.Core.Path.{_≡_, refl, sym, ap, ap₂, _∙_}
 use Rattle.passes.proofs.matching.among.Statement.{statement}
 use Rattle.passes.proofs.matching.among.Tie as tie
-use Rattle.passes.proofs.matching.among.Reads as reads
-use Rattle.passes.proofs.matching.among.Lts as lts
-use Rattle.base.proofs.u32_at.Reads as u32-at-reads
-use Rattle.passes.proofs.seats.first_seat.Reads as first-seat-reads
-use Rattle.passes.proofs.seats.seat_at.Reads as seat-at-reads
-use Rattle.passes.proofs.seats.sits.Reads as sits-reads
 
 abbrev Inv-loop : tie.InvT-loop
 Inv-loop listing at attrs w allow seat₀ left₀ seat left =
@@ -27,15 +23,12 @@ Inv-loop listing at attrs w allow seat₀ left₀ seat left =
 abbrev μ-loop : tie.MeasureT-loop
 μ-loop listing at attrs w allow seat₀ left₀ seat left = left
 
--- src/matching.rt:34:9
 first-seat-requires : tie.Need-first-seat-requires Inv-loop μ-loop
 first-seat-requires c κs = search needs
 
--- src/matching.rt:35:9
 u32-at-requires : tie.Need-u32-at-requires Inv-loop μ-loop
 u32-at-requires c κs = search needs
 
--- src/matching.rt:36:5
 loop-holds : tie.Need-loop-holds Inv-loop μ-loop
 loop-holds c =
     let a = c .before .before .before .before .args in
@@ -43,48 +36,43 @@ loop-holds c =
       f .ensures .1 .0,
       (
         f .ensures .1 .1 .0,
-        ap (λ (l : List Member). among (a .allow) l (a .w .now)) (crowd-start (a .attrs) (a .listing .now) (a .at) (c .u32-at .result) (f .result) (f .ensures .0) (c .u32-at .ensures)),
+        ap (λ (l : List Member). among (a .allow) l (a .w .now))
+            (crowd-start (a .attrs) (a .listing .now) (a .at) (c .u32-at .result) (f .result) (f .ensures .0) (c .u32-at .ensures)),
       ),
     )
 
--- src/matching.rt:38:13
 returns : tie.Need-returns Inv-loop μ-loop
 returns c =
     let a = c .before .before .before .before .before .before .before .args in
     let l = c .before .before .loop in
     sym (l .inv .1 .1 ∙ among-none (a .allow) (a .attrs) (a .listing .now) (a .w .now) (l .left) (l .seat) (c .if1 .taken))
 
--- src/matching.rt:40:12
 sits-requires : tie.Need-sits-requires Inv-loop μ-loop
 sits-requires c κs = search needs
 
--- src/matching.rt:41:13
 returns-2 : tie.Need-returns-2 Inv-loop μ-loop
 returns-2 c =
     let a = c .before .before .before .before .before .before .before .before .before .args in
     let l = c .before .before .before .before .loop in
-    sym (l .inv .1 .1 ∙ among-hit (a .allow) (a .attrs) (a .listing .now) (a .w .now) (l .left) (l .seat) (c .before .before .if1 .left) (sym (c .before .sits .ensures) ∙ c .if2 .taken))
+    sym (l .inv .1 .1 ∙ among-hit (a .allow) (a .attrs) (a .listing .now) (a .w .now) (l .left) (l .seat) (c .before .before .if1 .left)
+    (sym (c .before .sits .ensures) ∙ c .if2 .taken))
 
--- src/matching.rt:44:13
 returns-3 : tie.Need-returns-3 Inv-loop μ-loop
 returns-3 c =
     let a = c .before .before .before .before .before .before .before .before .before .before .args in
     let l = c .before .before .before .before .before .loop in
-    sym (l .inv .1 .1 ∙ among-last (a .allow) (a .attrs) (a .listing .now) (a .w .now) (l .left) (l .seat) (c .before .before .before .if1 .left) (sym (c .before .before .sits .ensures) ∙ c .before .if2 .left) (c .if3 .taken))
+    sym (l .inv .1 .1 ∙ among-last (a .allow) (a .attrs) (a .listing .now) (a .w .now) (l .left) (l .seat)
+    (c .before .before .before .if1 .left) (sym (c .before .before .sits .ensures) ∙ c .before .if2 .left) (c .if3 .taken))
 
--- src/matching.rt:46:9
 sub-left : tie.Need-sub-left Inv-loop μ-loop
 sub-left c = search needs
 
--- src/matching.rt:47:9
 seat-at-requires : tie.Need-seat-at-requires Inv-loop μ-loop
 seat-at-requires c κs = search needs
 
--- src/matching.rt:36:5
 loop-less : tie.Need-loop-less Inv-loop μ-loop
 loop-less c = search needs
 
--- src/matching.rt:36:5
 loop-again : tie.Need-loop-again Inv-loop μ-loop
 loop-again c =
     let a = c .before .before .before .before .before .before .before .before .before .before .before .args in
@@ -94,7 +82,10 @@ loop-again c =
       (
         s .ensures .1 .1 .0,
         l .inv .1 .1
-            ∙ among-more (a .allow) (a .attrs) (a .listing .now) (a .w .now) (l .left) (l .seat) (l .left - 1) (s .result) (c .before .before .before .before .if1 .left) (sym (c .before .before .before .sits .ensures) ∙ c .before .before .if2 .left) (omega (arith, c .before .if3 .left)) (s .ensures .0),
+            ∙ among-more (a .allow) (a .attrs) (a .listing .now) (a .w .now) (l .left) (l .seat) (l .left - 1) (s .result)
+            (c .before .before .before .before .if1 .left)
+            (sym (c .before .before .before .sits .ensures) ∙ c .before .before .if2 .left) (omega (arith, c .before .if3 .left))
+            (s .ensures .0),
       ),
     )
 

@@ -1,40 +1,35 @@
+-- `seat_at` meets its contract with and without an attribute word, and the seat lies inside the listing.
+-- Assumes nothing.
+use mathlib.Core.Path.{_≡_, sym, ap, _∙_}
+use native.Mathlib.Omega.{arith}
+use borrow.Author.Needs.{needs}
+use borrow.Author.Tests.{not-true, not-false}
+use Rattle.lists.proofs.SidLaws.{sid-end-bounds}
 use Rattle.lists.specs.Sid.{sidEnd}
 use Rattle.passes.specs.Seats.{allowWord, denyWord}
 use Rattle.passes.specs.declared.seats.Seat.{Seat}
-use borrow.Author.Tests.{lt-ltb, le-ltb, le-leb, lt-leb, eq-eqb, ne-eqb, not-true, not-false}
-use Rattle.lists.proofs.SidLaws.{sid-end-bounds}
-use Rattle.passes.proofs.SeatsLaws.{first-seat-none, first-seat-some, seat-at-none, seat-at-plain, seat-at-word}
-use mathlib.Core.Path.{_≡_, refl, sym, ap, ap₂, _∙_}
-use native.Mathlib.Omega.{arith}
-use borrow.Author.Needs.{needs}
+use Rattle.passes.proofs.SeatsLaws.{seat-at-none, seat-at-plain, seat-at-word}
 use Rattle.passes.proofs.seats.seat_at.Statement.{statement}
 use Rattle.passes.proofs.seats.seat_at.Tie as tie
-use Rattle.passes.proofs.seats.seat_at.Reads as reads
-use Rattle.passes.proofs.seats.seat_at.Lts as lts
-use Rattle.base.proofs.u32_at.Reads as u32-at-reads
-use Rattle.lists.proofs.sid_end.Reads as sid-end-reads
-use Rattle.passes.proofs.seats.allows.Reads as allows-reads
-use Rattle.passes.proofs.seats.denies.Reads as denies-reads
-use Rattle.passes.proofs.seats.no_seat.Reads as no-seat-reads
-use Rattle.passes.proofs.seats.onward.Reads as onward-reads
 
--- src/seats.rt:85:9
 sid-end-requires : tie.Need-sid-end-requires
 sid-end-requires c κs = search needs
 
--- src/seats.rt:87:9
 no-seat-requires : tie.Need-no-seat-requires
 no-seat-requires c κs = search needs
 
--- src/seats.rt:87:9
 returns : tie.Need-returns
 returns c =
     let a = c .before .before .before .before .args in
     let z = seat-at-none (a .s .now) (a .at) (a .attrs) (sym (c .before .before .sid-end .ensures .0) ∙ c .before .if1 .taken) in
-    let n = c .no-seat .ensures in
-    (n ∙ sym z, (omega (arith, ap (λ (x : Seat). x .from) n, ap (λ (x : Seat). x .to) n), (omega (arith, ap (λ (x : Seat). x .to) n), omega (arith, ap (λ (x : Seat). x .next) n))))
+    let n = c .no-seat .ensures in (
+      n ∙ sym z,
+      (
+        omega (arith, ap (λ (x : Seat). x .from) n, ap (λ (x : Seat). x .to) n),
+        (omega (arith, ap (λ (x : Seat). x .to) n), omega (arith, ap (λ (x : Seat). x .next) n)),
+      ),
+    )
 
--- src/seats.rt:90:9
 returns-2 : tie.Need-returns-2
 returns-2 c =
     let a = c .before .before .before .before .args in
@@ -44,23 +39,18 @@ returns-2 c =
     let p = seat-at-plain (a .s .now) (a .at) (c .before .before .sid-end .result) e (c .before .if1 .left) (omega arith) in
     (rw (not-true (a .attrs) (c .if2 .taken)) (sym p), (omega (arith, b .0), (omega arith, omega arith)))
 
--- src/seats.rt:98:27
 u32-at-requires : tie.Need-u32-at-requires
 u32-at-requires c κs = search needs
 
--- src/seats.rt:99:9
 onward-requires : tie.Need-onward-requires
 onward-requires c κs = search needs
 
--- src/seats.rt:104:17
 allows-requires : tie.Need-allows-requires
 allows-requires c κs = search needs
 
--- src/seats.rt:105:17
 denies-requires : tie.Need-denies-requires
 denies-requires c κs = search needs
 
--- src/seats.rt:81:1
 returns-3 : tie.Need-returns-3
 returns-3 c =
     let a = c .before .before .before .before .before .before .before .before .args in

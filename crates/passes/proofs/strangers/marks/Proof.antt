@@ -1,46 +1,38 @@
+-- `marks` meets its contract. The loop's invariant: the seat lies inside the listing, and marking the members from it on completes the
+-- table. The measure is how many members are left.
+-- Assumes nothing.
+use Prim.Native.Nat.{ℕ, _≤_, _-_}
+use mathlib.Core.List.{List}
+use mathlib.Core.Path.{_≡_, sym, ap, _∙_}
+use native.Mathlib.Omega.{arith}
+use borrow.Author.Needs.{needs}
+use lib.ListN.{length, length-set}
+use Rattle.tokens.specs.Crowd.{crowdAt}
+use Rattle.passes.specs.Marks.{marked, marksOf}
+use Rattle.passes.specs.Seats.{fromSeat}
 use Rattle.passes.proofs.SearchLaws.{marked-none, marked-last, marked-more}
 use Rattle.passes.proofs.SeatsLaws.{crowd-start}
-use Rattle.passes.specs.Seats.{fromSeat}
-use Rattle.passes.specs.Marks.{marked, marksOf}
-use Rattle.tokens.specs.Crowd.{crowdAt}
-use lib.ListN.{length, length-set}
-use mathlib.Core.List.{List}
-use borrow.Author.Needs.{needs}
-use native.Mathlib.Omega.{arith}
-use borrow.Author.Tests.{lt-ltb, le-ltb, le-leb, lt-leb, eq-eqb, ne-eqb, not-true, not-false}
-use Prim.Native.Nat.{ℕ, suc, _≤_, _<_, _-_, _+_}
-use mathlib.Core.Path.{_≡_, refl, sym, ap, ap₂, _∙_}
 use Rattle.passes.proofs.strangers.marks.Statement.{statement}
 use Rattle.passes.proofs.strangers.marks.Tie as tie
-use Rattle.passes.proofs.strangers.marks.Reads as reads
-use Rattle.passes.proofs.strangers.marks.Lts as lts
-use Rattle.base.proofs.u32_at.Reads as u32-at-reads
-use Rattle.passes.proofs.seats.first_seat.Reads as first-seat-reads
-use Rattle.passes.proofs.seats.seat_at.Reads as seat-at-reads
-use Rattle.passes.proofs.strangers.key.Reads as key-reads
-use Rattle.passes.proofs.strangers.unmarked.Reads as unmarked-reads
 
 abbrev Inv-loop : tie.InvT-loop
 Inv-loop listing at attrs table₀ seat₀ left₀ table seat left =
     (seat .from ≤ seat .to)
-    × ((seat .to ≤ length listing) × ((length table ≡ 256) × (marksOf (crowdAt attrs listing at) ≡ marked table (fromSeat attrs listing left seat))))
+    × ((seat .to ≤ length listing) × ((length table ≡ 4096) ×
+    (marksOf (crowdAt attrs listing at) ≡ marked table (fromSeat attrs listing left seat))))
 
 abbrev μ-loop : tie.MeasureT-loop
 μ-loop listing at attrs table₀ seat₀ left₀ table seat left = left
 
--- src/strangers.rt:34:21
 unmarked-requires : tie.Need-unmarked-requires Inv-loop μ-loop
 unmarked-requires c κs = search needs
 
--- src/strangers.rt:35:9
 first-seat-requires : tie.Need-first-seat-requires Inv-loop μ-loop
 first-seat-requires c κs = search needs
 
--- src/strangers.rt:36:9
 u32-at-requires : tie.Need-u32-at-requires Inv-loop μ-loop
 u32-at-requires c κs = search needs
 
--- src/strangers.rt:37:5
 loop-holds : tie.Need-loop-holds Inv-loop μ-loop
 loop-holds c =
     let a = c .before .before .before .before .args in
@@ -57,53 +49,43 @@ loop-holds c =
       ),
     )
 
--- src/strangers.rt:41:13
 returns : tie.Need-returns Inv-loop μ-loop
 returns c =
     let a = c .before .before .before .before .before .before .args in
     let l = c .before .loop in
     sym (l .inv .1 .1 .1 ∙ marked-none (a .attrs) (a .listing .now) (l .table) (l .left) (l .seat) (c .if1 .taken))
 
--- src/strangers.rt:43:21
 sub-key : tie.Need-sub-key Inv-loop μ-loop
 sub-key c = search needs
 
--- src/strangers.rt:43:21
 part-key-start : tie.Need-part-key-start Inv-loop μ-loop
 part-key-start c = search needs
 
--- src/strangers.rt:43:21
 part-key-end : tie.Need-part-key-end Inv-loop μ-loop
 part-key-end c = search needs
 
--- src/strangers.rt:43:13
 key-requires : tie.Need-key-requires Inv-loop μ-loop
 key-requires c κs = search needs
 
--- src/strangers.rt:44:9
 array-write-table : tie.Need-array-write-table Inv-loop μ-loop
 array-write-table c = search needs
 
--- src/strangers.rt:46:13
 returns-2 : tie.Need-returns-2 Inv-loop μ-loop
 returns-2 c =
     let a = c .before .before .before .before .before .before .before .before .before .args in
     let l = c .before .before .before .before .loop in
-    sym (l .inv .1 .1 .1 ∙ marked-last (a .attrs) (a .listing .now) (l .table) (l .left) (l .seat) (c .before .key .result) (c .before .before .before .if1 .left) (c .before .key .ensures .0) (c .if2 .taken))
+    sym (l .inv .1 .1 .1 ∙ marked-last (a .attrs) (a .listing .now) (l .table) (l .left) (l .seat) (c .before .key .result)
+    (c .before .before .before .if1 .left) (c .before .key .ensures .0) (c .if2 .taken))
 
--- src/strangers.rt:48:9
 sub-left : tie.Need-sub-left Inv-loop μ-loop
 sub-left c = search needs
 
--- src/strangers.rt:49:9
 seat-at-requires : tie.Need-seat-at-requires Inv-loop μ-loop
 seat-at-requires c κs = search needs
 
--- src/strangers.rt:37:5
 loop-less : tie.Need-loop-less Inv-loop μ-loop
 loop-less c = search needs
 
--- src/strangers.rt:37:5
 loop-again : tie.Need-loop-again Inv-loop μ-loop
 loop-again c =
     let a = c .before .before .before .before .before .before .before .before .before .before .args in
@@ -115,7 +97,9 @@ loop-again c =
         (
           simp length-set (l .inv .1 .1 .0),
           l .inv .1 .1 .1
-              ∙ marked-more (a .attrs) (a .listing .now) (l .table) (l .left) (l .seat) (c .before .before .key .result) (l .left - 1) (s .result) (c .before .before .before .before .if1 .left) (c .before .before .key .ensures .0) (omega (arith, c .before .if2 .left)) (s .ensures .0),
+              ∙ marked-more (a .attrs) (a .listing .now) (l .table) (l .left) (l .seat) (c .before .before .key .result) (l .left - 1)
+              (s .result) (c .before .before .before .before .if1 .left) (c .before .before .key .ensures .0)
+              (omega (arith, c .before .if2 .left)) (s .ensures .0),
         ),
       ),
     )

@@ -1,32 +1,25 @@
 -- `policy::one_rule::is_unread` meets its contract: each test in its order. Assumes nothing.
 use borrow.Author.Tests.{lt-ltb, le-ltb}
-use mathlib.Core.Path.{sym}
 use borrow.Author.Needs.{needs}
 use Rattle.policy.proofs.one_rule.is_unread.Statement.{statement}
 use Rattle.policy.proofs.one_rule.is_unread.Tie as tie
-use Rattle.policy.proofs.one_rule.is_unread.Reads as reads
-use Rattle.policy.proofs.one_rule.is_unread.Lts as lts
-use Rattle.policy.proofs.sections.is_alien.Reads as is-alien-reads
 
--- src/shape.rt:137:9
 returns : tie.Need-returns
 returns c = rw (lt-ltb _ _ (c .if1 .taken))
 
--- src/shape.rt:139:8
 is-alien-requires : tie.Need-is-alien-requires
 is-alien-requires c κs = search needs
 
--- src/shape.rt:140:9
 returns-2 : tie.Need-returns-2
 returns-2 c = rw (le-ltb _ _ (c .before .before .if1 .left), ← c .before .is-alien .ensures, c .if2 .taken)
 
--- src/shape.rt:142:5
 is-alien-requires-2 : tie.Need-is-alien-requires-2
 is-alien-requires-2 c κs = search needs
 
--- src/shape.rt:133:1
 returns-3 : tie.Need-returns-3
-returns-3 c = rw (le-ltb _ _ (c .before .before .before .if1 .left), ← c .before .before .is-alien .ensures, c .before .if2 .left) (c .is-alien2 .ensures)
+returns-3 c =
+    rw (le-ltb _ _ (c .before .before .before .if1 .left), ← c .before .before .is-alien .ensures, c .before .if2 .left)
+    (c .is-alien2 .ensures)
 
 pub is-unread-spec : {M : Type 1} → statement M
 is-unread-spec =

@@ -1,63 +1,57 @@
 -- `policy::rules::judged` meets its contract: the rule's effective list, and its staged one where it has one. Assumes nothing.
 use mathlib.Core.Bool.{true}
 use borrow.Author.Tests.{lt-ltb, le-ltb}
+use borrow.Author.Needs.{needs}
 use Rattle.tokens.specs.Crowd.{crowdAt}
 use Rattle.policy.specs.Rules.{listsOf}
 use Rattle.policy.specs.Found.{keptLists}
 use Rattle.policy.proofs.RulesSteps.{judged-plain, judged-staged}
-use borrow.Author.Needs.{needs}
 use Rattle.policy.proofs.rules.judged.Statement.{statement}
 use Rattle.policy.proofs.rules.judged.Tie as tie
-use Rattle.policy.proofs.rules.judged.Reads as reads
-use Rattle.policy.proofs.rules.judged.Lts as lts
-use Rattle.policy.proofs.rules.result.Reads as result-reads
 
--- src/rules.rt:80:20
 sub-result : tie.Need-sub-result
 sub-result c = search needs
 
--- src/rules.rt:80:20
 part-result-start : tie.Need-part-result-start
 part-result-start c = search needs
 
--- src/rules.rt:80:20
 part-result-end : tie.Need-part-result-end
 part-result-end c = search needs
 
--- src/rules.rt:80:9
 result-requires : tie.Need-result-requires
 result-requires c κs = search needs
 
--- src/rules.rt:84:24
 sub-result-2 : tie.Need-sub-result-2
 sub-result-2 c = search needs
 
--- src/rules.rt:84:24
 part-result-start-2 : tie.Need-part-result-start-2
 part-result-start-2 c = search needs
 
--- src/rules.rt:84:24
 part-result-end-2 : tie.Need-part-result-end-2
 part-result-end-2 c = search needs
 
--- src/rules.rt:84:13
 result-requires-2 : tie.Need-result-requires-2
 result-requires-2 c κs = search needs
 
--- src/rules.rt:85:9
 returns : tie.Need-returns
 returns c =
-    let a = c .before .before .before .before .before .before .before .before .before .before .before .before .before .before .args in
-    judged-staged (a .kind) (crowdAt true (a .listing .now) (a .at)) (a .hits) (a .privileges) (a .before) (keptLists (a .table .now) (listsOf (a .s .now) (a .r)))
-    (c .before .before .before .before .before .before .before .before .result .result .0) (c .before .before .before .before .before .before .before .before .result .ensures)
-    (c .before .before .before .before .before .result2 .result .0) (c .before .before .before .before .before .result2 .ensures) (lt-ltb _ _ (c .before .before .before .before .before .before .before .if1 .taken))
+    let second = c .before .before .before .before .before in
+    let test = second .before .before in
+    let first = test .before in
+    let a = first .before .before .before .before .before .before .args in
+    judged-staged (a .kind) (crowdAt true (a .listing .now) (a .at)) (a .hits) (a .privileges) (a .before)
+    (keptLists (a .table .now) (listsOf (a .s .now) (a .r)))
+    (first .result .result .0) (first .result .ensures) (second .result2 .result .0) (second .result2 .ensures)
+    (lt-ltb _ _ (test .if1 .taken))
 
--- src/rules.rt:62:1
 returns-2 : tie.Need-returns-2
 returns-2 c =
-    let a = c .before .before .before .before .before .before .before .before .before .args in
-    judged-plain (a .kind) (crowdAt true (a .listing .now) (a .at)) (a .hits) (a .privileges) (a .before) (keptLists (a .table .now) (listsOf (a .s .now) (a .r)))
-    (c .before .before .before .result .result .0) (c .before .before .before .result .ensures) (le-ltb _ _ (c .before .before .if1 .left))
+    let test = c .before .before in
+    let first = test .before in
+    let a = first .before .before .before .before .before .before .args in
+    judged-plain (a .kind) (crowdAt true (a .listing .now) (a .at)) (a .hits) (a .privileges) (a .before)
+    (keptLists (a .table .now) (listsOf (a .s .now) (a .r)))
+    (first .result .result .0) (first .result .ensures) (le-ltb _ _ (test .if1 .left))
 
 pub judged-spec : {M : Type 1} → statement M
 judged-spec =

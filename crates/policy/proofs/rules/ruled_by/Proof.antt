@@ -1,5 +1,5 @@
--- `policy::rules::ruled_by` meets its contract. The loop's invariant: what all rules leave is what the rules ahead leave of what is left so far.
--- The measure is the number of rules ahead. Assumes nothing.
+-- `policy::rules::ruled_by` meets its contract. The loop's invariant: what all rules leave is what the rules ahead leave of what is left
+-- so far. The measure is the number of rules ahead. Assumes nothing.
 use Prim.Native.Nat.{ℕ, _-_, _≤_}
 use mathlib.Core.Path.{_≡_, sym, ap, _∙_}
 use mathlib.Core.Bool.{true}
@@ -12,11 +12,6 @@ use Rattle.policy.specs.Found.{foundOf, keptRules}
 use Rattle.policy.proofs.RulesSteps.{Left, left-end, left-stop, left-more}
 use Rattle.policy.proofs.rules.ruled_by.Statement.{statement}
 use Rattle.policy.proofs.rules.ruled_by.Tie as tie
-use Rattle.policy.proofs.rules.ruled_by.Reads as reads
-use Rattle.policy.proofs.rules.ruled_by.Lts as lts
-use Rattle.base.proofs.u32_at.Reads as u32-at-reads
-use Rattle.policy.proofs.rules.judged.Reads as judged-reads
-use Rattle.policy.proofs.rules.step_at.Reads as step-at-reads
 
 abbrev Inv-loop : tie.InvT-loop
 Inv-loop s kind listing at table hits privileges n so-far₀ place₀ k₀ so-far place k =
@@ -27,63 +22,62 @@ Inv-loop s kind listing at table hits privileges n so-far₀ place₀ k₀ so-fa
 abbrev μ-loop : tie.MeasureT-loop
 μ-loop s kind listing at table hits privileges n so-far₀ place₀ k₀ so-far place k = n - k
 
--- src/rules.rt:109:9
 u32-at-requires : tie.Need-u32-at-requires Inv-loop μ-loop
 u32-at-requires c κs = search needs
 
--- src/rules.rt:116:5
 loop-holds : tie.Need-loop-holds Inv-loop μ-loop
 loop-holds c =
-    let a = c .before .before .before .args in
-    (omega arith, ap (λ (m : ℕ). Left (a .kind) (crowdAt true (a .listing .now) (a .at)) (a .hits) (a .privileges) (a .table .now) (a .s .now) (ruled everything 0) m 5) (omega (arith, c .u32-at .ensures)))
+    let a = c .before .before .before .args in (
+      omega arith,
+      ap
+          (λ (m : ℕ). Left (a .kind) (crowdAt true (a .listing .now) (a .at)) (a .hits) (a .privileges) (a .table .now)
+          (a .s .now) (ruled everything 0) m 5)
+          (omega (arith, c .u32-at .ensures)),
+    )
 
--- src/rules.rt:117:13
 step-at-requires : tie.Need-step-at-requires Inv-loop μ-loop
 step-at-requires c κs = search needs
 
--- src/rules.rt:120:13
 returns : tie.Need-returns Inv-loop μ-loop
 returns c =
     let i = c .before .before .before .loop in
-    let a = c .before .before .before .before .before .before .before .args in
-    let n = c .before .before .before .before .u32-at .result in
+    let n = c .before .before .before .before in
+    let a = n .before .before .before .args in
     let r = c .before .step-at in
     sym
     (i .inv .1
-    ∙ left-stop (a .kind) (crowdAt true (a .listing .now) (a .at)) (a .hits) (a .privileges) (a .table .now) (a .s .now) (i .so-far) n (i .k) (i .place) (r .result)
-    (omega arith) (r .ensures .0) (c .if1 .taken))
+    ∙ left-stop (a .kind) (crowdAt true (a .listing .now) (a .at)) (a .hits) (a .privileges) (a .table .now)
+    (a .s .now) (i .so-far) (n .u32-at .result) (i .k) (i .place) (r .result) (omega arith) (r .ensures .0) (c .if1 .taken))
 
--- src/rules.rt:122:9
 judged-requires : tie.Need-judged-requires Inv-loop μ-loop
 judged-requires c κs = search needs
 
--- src/rules.rt:124:9
 add-k : tie.Need-add-k Inv-loop μ-loop
 add-k c = search needs
 
--- src/rules.rt:116:5
 loop-less : tie.Need-loop-less Inv-loop μ-loop
 loop-less c = search needs
 
--- src/rules.rt:116:5
 loop-again : tie.Need-loop-again Inv-loop μ-loop
 loop-again c =
     let i = c .before .before .before .before .loop in
-    let a = c .before .before .before .before .before .before .before .before .args in
-    let n = c .before .before .before .before .before .u32-at .result in
+    let n = c .before .before .before .before .before in
+    let a = n .before .before .before .args in
     let r = c .before .before .step-at in (
       omega arith,
       i .inv .1
-          ∙ left-more (a .kind) (crowdAt true (a .listing .now) (a .at)) (a .hits) (a .privileges) (a .table .now) (a .s .now) (i .so-far) n (i .k) (i .place) (r .result) (c .judged .result)
+          ∙ left-more (a .kind) (crowdAt true (a .listing .now) (a .at)) (a .hits) (a .privileges) (a .table .now)
+          (a .s .now) (i .so-far) (n .u32-at .result) (i .k) (i .place) (r .result) (c .judged .result)
           (omega arith) (r .ensures .0) (c .before .if1 .left) (c .judged .ensures),
     )
 
--- src/rules.rt:98:1
 returns-2 : tie.Need-returns-2 Inv-loop μ-loop
 returns-2 c =
     let i = c .before .loop in
-    let a = c .before .before .before .before .before .args in
-    sym (i .inv .1 ∙ left-end (a .kind) (crowdAt true (a .listing .now) (a .at)) (a .hits) (a .privileges) (a .table .now) (a .s .now) (i .so-far) (c .before .before .u32-at .result) (i .k) (i .place) (omega arith))
+    let n = c .before .before in
+    let a = n .before .before .before .args in
+    sym (i .inv .1 ∙ left-end (a .kind) (crowdAt true (a .listing .now) (a .at)) (a .hits) (a .privileges) (a .table .now)
+    (a .s .now) (i .so-far) (n .u32-at .result) (i .k) (i .place) (omega arith))
 
 pub ruled-by-spec : {M : Type 1} → statement M
 ruled-by-spec =

@@ -3,31 +3,22 @@ use borrow.Author.Tests.{eq-eqb, ne-eqb}
 use borrow.Author.Needs.{needs}
 use Rattle.policy.proofs.sections.list_in.Statement.{statement}
 use Rattle.policy.proofs.sections.list_in.Tie as tie
-use Rattle.policy.proofs.sections.list_in.Reads as reads
-use Rattle.policy.proofs.sections.list_in.Lts as lts
-use Rattle.policy.proofs.sections.acl_section.Reads as acl-section-reads
 
--- src/shape.rt:94:9
 returns : tie.Need-returns
 returns c = rw (eq-eqb _ _ (c .if1 .taken))
 
--- src/shape.rt:96:17
 sub-acl-section : tie.Need-sub-acl-section
 sub-acl-section c = search needs
 
--- src/shape.rt:96:17
 part-acl-section-start : tie.Need-part-acl-section-start
 part-acl-section-start c = search needs
 
--- src/shape.rt:96:17
 part-acl-section-end : tie.Need-part-acl-section-end
 part-acl-section-end c = search needs
 
--- src/shape.rt:96:5
 acl-section-requires : tie.Need-acl-section-requires
 acl-section-requires c κs = search needs
 
--- src/shape.rt:87:1
 returns-2 : tie.Need-returns-2
 returns-2 c = rw (ne-eqb _ _ (c .before .before .if1 .left)) (c .acl-section .ensures)
 

@@ -3,31 +3,22 @@ use borrow.Author.Tests.{eq-eqb, ne-eqb}
 use borrow.Author.Needs.{needs}
 use Rattle.policy.proofs.sections.maybe_in.Statement.{statement}
 use Rattle.policy.proofs.sections.maybe_in.Tie as tie
-use Rattle.policy.proofs.sections.maybe_in.Reads as reads
-use Rattle.policy.proofs.sections.maybe_in.Lts as lts
-use Rattle.policy.proofs.sections.maybe_acl.Reads as maybe-acl-reads
 
--- src/shape.rt:107:9
 returns : tie.Need-returns
 returns c = rw (eq-eqb _ _ (c .if1 .taken))
 
--- src/shape.rt:109:15
 sub-maybe-acl : tie.Need-sub-maybe-acl
 sub-maybe-acl c = search needs
 
--- src/shape.rt:109:15
 part-maybe-acl-start : tie.Need-part-maybe-acl-start
 part-maybe-acl-start c = search needs
 
--- src/shape.rt:109:15
 part-maybe-acl-end : tie.Need-part-maybe-acl-end
 part-maybe-acl-end c = search needs
 
--- src/shape.rt:109:5
 maybe-acl-requires : tie.Need-maybe-acl-requires
 maybe-acl-requires c κs = search needs
 
--- src/shape.rt:100:1
 returns-2 : tie.Need-returns-2
 returns-2 c = rw (ne-eqb _ _ (c .before .before .if1 .left)) (c .maybe-acl .ensures)
 

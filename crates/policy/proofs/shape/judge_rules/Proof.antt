@@ -1,5 +1,5 @@
--- `policy::shape::judge_rules` meets its contract. The loop's invariant: the standing of all rules is that of the rules that are left, after
--- something unread was met or not. The measure is the number of rules left. Assumes nothing.
+-- `policy::shape::judge_rules` meets its contract. The loop's invariant: the standing of all rules is that of the rules that are left,
+-- after something unread was met or not. The measure is the number of rules left. Assumes nothing.
 use Prim.Native.Nat.{ℕ, _-_, _≤_}
 use mathlib.Core.Path.{_≡_, sym, ap, _∙_}
 use mathlib.Core.Bool.{Bool, false, cond}
@@ -10,10 +10,6 @@ use Rattle.policy.specs.declared.shape.Standing.the-variants.{Sound, Unr
 use Rattle.policy.proofs.PolicySteps.{Left, rules-end, rules-over, rules-broken, rules-more}
 use Rattle.policy.proofs.shape.judge_rules.Statement.{statement}
 use Rattle.policy.proofs.shape.judge_rules.Tie as tie
-use Rattle.policy.proofs.shape.judge_rules.Reads as reads
-use Rattle.policy.proofs.shape.judge_rules.Lts as lts
-use Rattle.policy.proofs.shape.either.Reads as either-reads
-use Rattle.policy.proofs.one_rule.rule_at.Reads as rule-at-reads
 
 abbrev Inv-loop : tie.InvT-loop
 Inv-loop s n unread₀ at₀ k₀ unread at k = (k ≤ n) × (standing (rulesShaped s n 5) (rulesUnread s n 5) ≡ Left s unread (n - k) at)
@@ -21,15 +17,12 @@ Inv-loop s n unread₀ at₀ k₀ unread at k = (k ≤ n) × (standing (rulesSha
 abbrev μ-loop : tie.MeasureT-loop
 μ-loop s n unread₀ at₀ k₀ unread at k = n - k
 
--- src/shape.rt:232:5
 loop-holds : tie.Need-loop-holds Inv-loop μ-loop
 loop-holds c = let a = c .before .args in (omega arith, ap (λ (m : ℕ). Left (a .s .now) false m 5) (omega arith))
 
--- src/shape.rt:233:13
 rule-at-requires : tie.Need-rule-at-requires Inv-loop μ-loop
 rule-at-requires c κs = search needs
 
--- src/shape.rt:236:13
 returns : tie.Need-returns Inv-loop μ-loop
 returns c =
     let i = c .before .before .before .loop in
@@ -37,19 +30,15 @@ returns c =
     let r = c .before .rule-at in
     sym (i .inv .1 ∙ rules-broken (a .s .now) (i .unread) (a .n) (i .k) (i .at) (r .result) (omega arith) (r .ensures .0) (c .if1 .taken))
 
--- src/shape.rt:238:9
 either-requires : tie.Need-either-requires Inv-loop μ-loop
 either-requires c κs = search needs
 
--- src/shape.rt:240:9
 add-k : tie.Need-add-k Inv-loop μ-loop
 add-k c = search needs
 
--- src/shape.rt:232:5
 loop-less : tie.Need-loop-less Inv-loop μ-loop
 loop-less c = search needs
 
--- src/shape.rt:232:5
 loop-again : tie.Need-loop-again Inv-loop μ-loop
 loop-again c =
     let i = c .before .before .before .before .loop in
@@ -61,14 +50,12 @@ loop-again c =
           (c .before .if1 .left) (c .either .ensures),
     )
 
--- src/shape.rt:243:9
 returns-2 : tie.Need-returns-2 Inv-loop μ-loop
 returns-2 c =
     let i = c .before .before .loop in
     let a = c .before .before .before .before .args in
     sym (i .inv .1 ∙ rules-over (a .s .now) (i .unread) (a .n) (i .k) (i .at) (omega arith) (c .if2 .taken))
 
--- src/shape.rt:246:9
 returns-3 : tie.Need-returns-3 Inv-loop μ-loop
 returns-3 c =
     let i = c .before .before .before .loop in
@@ -78,7 +65,6 @@ returns-3 c =
     ∙ rules-end (a .s .now) (i .unread) (a .n) (i .k) (i .at) (omega arith) (omega arith)
     ∙ ap (λ (t : Bool). cond t Unread Sound) (c .if3 .taken))
 
--- src/shape.rt:226:1
 returns-4 : tie.Need-returns-4 Inv-loop μ-loop
 returns-4 c =
     let i = c .before .before .before .loop in

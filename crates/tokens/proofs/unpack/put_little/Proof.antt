@@ -1,4 +1,8 @@
-use Prim.Native.Nat.{ℕ, _+_, _<_, _≤_, _^_}
+-- `put_little` writes the bytes of a number: what is left to write, written from here, is the whole, written from the start. The measure
+-- is how
+-- many bytes are left.
+-- Assumes nothing.
+use Prim.Native.Nat.{_+_, _<_, _≤_, _^_}
 use mathlib.Core.Path.{_≡_, refl, sym, _∙_}
 use native.Mathlib.Omega.{arith}
 use borrow.Author.Needs.{needs}
@@ -7,8 +11,6 @@ use Rattle.base.specs.Bytes.{little}
 use Rattle.tokens.proofs.UnpackLaws.{put-none, put-more}
 use Rattle.tokens.proofs.unpack.put_little.Statement.{statement}
 use Rattle.tokens.proofs.unpack.put_little.Tie as tie
-use Rattle.tokens.proofs.unpack.put_little.Reads as reads
-use Rattle.tokens.proofs.unpack.put_little.Lts as lts
 
 abbrev Inv-loop : tie.InvT-loop
 Inv-loop out₀ o n v rest₀ to₀ more₀ out rest to more =
@@ -17,37 +19,29 @@ Inv-loop out₀ o n v rest₀ to₀ more₀ out rest to more =
 abbrev μ-loop : tie.MeasureT-loop
 μ-loop out₀ o n v rest₀ to₀ more₀ out rest to more = more
 
--- src/unpack.rt:32:5
 loop-holds : tie.Need-loop-holds Inv-loop μ-loop
 loop-holds c = (refl, c .pre, c .fits .v .fits, refl)
 
--- src/unpack.rt:33:19
 cast-out : tie.Need-cast-out Inv-loop μ-loop
 cast-out c = search needs
 
--- src/unpack.rt:33:9
 element-write-out : tie.Need-element-write-out Inv-loop μ-loop
 element-write-out c = search needs
 
--- src/unpack.rt:35:9
 add-to : tie.Need-add-to Inv-loop μ-loop
 add-to c = search needs
 
--- src/unpack.rt:36:9
 sub-more : tie.Need-sub-more Inv-loop μ-loop
 sub-more c = search needs
 
--- src/unpack.rt:32:5
 loop-less : tie.Need-loop-less Inv-loop μ-loop
 loop-less c = search needs
 
--- src/unpack.rt:32:5
 loop-again : tie.Need-loop-again Inv-loop μ-loop
 loop-again c =
     let i = c .before .loop .inv in
     (omega arith, i .1, omega arith, i .3 ∙ put-more _ _ _ _ (c .loop-test .taken))
 
--- src/unpack.rt:25:1
 returns : tie.Need-returns Inv-loop μ-loop
 returns c = sym (c .before .loop .inv .3 ∙ put-none _ _ _ _ (omega arith))
 

@@ -1,4 +1,6 @@
-use mathlib.Core.Path.{_≡_, refl, sym, _∙_}
+-- `unpack_confinement`: what the capabilities come to after the identity and the count.
+-- Assumes nothing.
+use mathlib.Core.Path.{sym, _∙_}
 use native.Mathlib.Omega.{arith}
 use Rattle.tokens.specs.TokenRecord.{packedIdentity}
 use Rattle.tokens.specs.Unpacking.{copied, capabilitiesOf, confinementOf}
@@ -6,29 +8,19 @@ use Rattle.tokens.proofs.UnpackLaws.{after-refused, after-done, counted
 use borrow.Author.Needs.{needs}
 use Rattle.tokens.proofs.unpack.unpack_confinement.Statement.{statement}
 use Rattle.tokens.proofs.unpack.unpack_confinement.Tie as tie
-use Rattle.tokens.proofs.unpack.unpack_confinement.Reads as reads
-use Rattle.tokens.proofs.unpack.unpack_confinement.Lts as lts
-use Rattle.tokens.proofs.unpack.number_to.Reads as number-to-reads
-use Rattle.tokens.proofs.unpack.put_little.Reads as put-little-reads
-use Rattle.tokens.proofs.unpack.unpack_capabilities.Reads as unpack-capabilities-reads
-use Rattle.tokens.proofs.unpack.unpack_identity.Reads as unpack-identity-reads
 
--- src/unpack.rt:202:9
 unpack-identity-requires : tie.Need-unpack-identity-requires
 unpack-identity-requires c κs = search needs
 
--- src/unpack.rt:204:9
 returns : tie.Need-returns
 unfolding confinementOf
 returns c =
     let w = c .before .before .unpack-identity in
     (sym (after-refused _ _ _ (w .result) _ (w .ensures .0) (capabilitiesOf _) (c .if1 .taken)), omega arith)
 
--- src/unpack.rt:206:9
 number-to-requires : tie.Need-number-to-requires
 number-to-requires c κs = search needs
 
--- src/unpack.rt:208:9
 returns-2 : tie.Need-returns-2
 unfolding confinementOf
 returns-2 c =
@@ -37,26 +29,24 @@ returns-2 c =
     let n = c .before .before .number-to in
     (sym (d ∙ counted-refused 64 _ _ (λ k. copied packedIdentity k _) _ _ (n .result) (n .ensures .0) (c .if2 .taken)), omega arith)
 
--- src/unpack.rt:210:5
 put-little-requires : tie.Need-put-little-requires
 put-little-requires c κs = search needs
 
--- src/unpack.rt:211:59
 add-unpack-capabilities : tie.Need-add-unpack-capabilities
 add-unpack-capabilities c = search needs
 
--- src/unpack.rt:211:5
 unpack-capabilities-requires : tie.Need-unpack-capabilities-requires
 unpack-capabilities-requires c κs = search needs
 
--- src/unpack.rt:197:1
 returns-3 : tie.Need-returns-3
 unfolding confinementOf
 returns-3 c =
     let w = c .before .before .before .before .before .before .before .before .before .before .unpack-identity in
-    let d = after-done _ _ _ (w .result) _ (w .ensures .0) (capabilitiesOf _) (c .before .before .before .before .before .before .before .before .if1 .left) in
+    let d = after-done _ _ _ (w .result) _ (w .ensures .0) (capabilitiesOf _)
+    (c .before .before .before .before .before .before .before .before .if1 .left) in
     let n = c .before .before .before .before .before .before .before .number-to in
-    let e = counted-done 64 _ _ (λ k. copied packedIdentity k _) _ _ (n .result) (n .ensures .0) (c .before .before .before .before .before .if2 .left) in
+    let e = counted-done 64 _ _ (λ k. copied packedIdentity k _) _ _ (n .result) (n .ensures .0)
+    (c .before .before .before .before .before .if2 .left) in
     (c .unpack-capabilities .ensures .0 ∙ rw (c .before .before .before .put-little .ensures) (sym (d ∙ e)), omega arith)
 
 pub unpack-confinement-spec : {M : Type 1} → statement M

@@ -1,15 +1,13 @@
-use Prim.Native.Nat.{ℕ, _+_, _*_, _<_, _≤_}
+-- `unpack_groups`: what the groups that are left come to from here is what all came to from the start. The measure is how many are left.
+-- Assumes nothing.
+use Prim.Native.Nat.{_+_, _*_, _≤_}
 use mathlib.Core.Path.{_≡_, refl, sym, _∙_}
 use native.Mathlib.Omega.{arith}
 use borrow.Author.Needs.{needs}
-use Rattle.tokens.specs.TokenRecord.{packedIdentity}
 use Rattle.tokens.specs.Unpacking.{outcome, copied, groupOf}
 use Rattle.tokens.proofs.UnpackLaws.{copied-none, copied-refused, copied-done, step-refused, step-done}
 use Rattle.tokens.proofs.unpack.unpack_groups.Statement.{statement}
 use Rattle.tokens.proofs.unpack.unpack_groups.Tie as tie
-use Rattle.tokens.proofs.unpack.unpack_groups.Reads as reads
-use Rattle.tokens.proofs.unpack.unpack_groups.Lts as lts
-use Rattle.tokens.proofs.unpack.unpack_group.Reads as unpack-group-reads
 
 abbrev Inv-loop : tie.InvT-loop
 Inv-loop s at n out₀ o from₀ to₀ more₀ out from to more =
@@ -19,15 +17,12 @@ Inv-loop s at n out₀ o from₀ to₀ more₀ out from to more =
 abbrev μ-loop : tie.MeasureT-loop
 μ-loop s at n out₀ o from₀ to₀ more₀ out from to more = more
 
--- src/unpack.rt:155:5
 loop-holds : tie.Need-loop-holds Inv-loop μ-loop
 loop-holds c = (omega arith, c .before .pre, refl)
 
--- src/unpack.rt:156:13
 unpack-group-requires : tie.Need-unpack-group-requires Inv-loop μ-loop
 unpack-group-requires c κs = search needs
 
--- src/unpack.rt:158:13
 returns : tie.Need-returns Inv-loop μ-loop
 returns c =
     let i = c .before .before .before .before .before .loop .inv in
@@ -35,15 +30,12 @@ returns c =
     let d = step-refused _ _ _ (w .result) _ (w .ensures .0) (c .if1 .taken) in
     (sym (i .2 ∙ copied-refused _ _ _ _ _ _ (c .before .before .before .before .loop-test .taken) d), omega arith)
 
--- src/unpack.rt:162:9
 sub-more : tie.Need-sub-more Inv-loop μ-loop
 sub-more c = search needs
 
--- src/unpack.rt:155:5
 loop-less : tie.Need-loop-less Inv-loop μ-loop
 loop-less c = search needs
 
--- src/unpack.rt:155:5
 loop-again : tie.Need-loop-again Inv-loop μ-loop
 loop-again c =
     let i = c .before .before .before .before .before .loop .inv in
@@ -51,7 +43,6 @@ loop-again c =
     let d = step-done _ _ _ (w .result) _ (w .ensures .0) (c .if1 .left) in
     (omega arith, omega arith, i .2 ∙ copied-done _ _ _ _ _ _ _ _ _ (c .before .before .before .before .loop-test .taken) d)
 
--- src/unpack.rt:147:1
 returns-2 : tie.Need-returns-2 Inv-loop μ-loop
 returns-2 c =
     let i = c .before .loop .inv in

@@ -1,75 +1,63 @@
-use mathlib.Core.Path.{_≡_, refl, sym, _∙_}
+-- `unpack_identity`: each way out is a number that is not there, and the last is what the words come to after the first eight bytes.
+-- Assumes nothing.
+use mathlib.Core.Path.{sym, _∙_}
 use native.Mathlib.Omega.{arith}
 use Rattle.tokens.proofs.UnpackLaws.{identity-uncounted, identity-unnamed, identity-done}
 use borrow.Author.Needs.{needs}
 use Rattle.tokens.proofs.unpack.unpack_identity.Statement.{statement}
 use Rattle.tokens.proofs.unpack.unpack_identity.Tie as tie
-use Rattle.tokens.proofs.unpack.unpack_identity.Reads as reads
-use Rattle.tokens.proofs.unpack.unpack_identity.Lts as lts
-use Rattle.base.proofs.number48.Reads as number48-reads
-use Rattle.tokens.proofs.unpack.number_to.Reads as number-to-reads
-use Rattle.tokens.proofs.unpack.put_big.Reads as put-big-reads
-use Rattle.tokens.proofs.unpack.unpack_words.Reads as unpack-words-reads
 
--- src/unpack.rt:110:9
 number-to-requires : tie.Need-number-to-requires
 number-to-requires c κs = search needs
 
--- src/unpack.rt:112:9
 returns : tie.Need-returns
 returns c =
     let n = c .before .before .number-to in
     (sym (identity-uncounted _ _ _ _ (n .result) (n .ensures .0) (c .if1 .taken)), omega arith)
 
--- src/unpack.rt:114:9
 number48-requires : tie.Need-number48-requires
 number48-requires c κs = search needs
 
--- src/unpack.rt:116:9
 returns-2 : tie.Need-returns-2
 returns-2 c =
     let n = c .before .before .before .before .before .number-to in
-    let v = c .before .before .number48 in
-    (sym (identity-unnamed _ _ _ _ (n .result) (n .ensures .0) (v .result) (v .ensures .0) (c .before .before .before .if1 .left) (c .if2 .taken)), omega arith)
+    let v = c .before .before .number48 in (
+      sym (identity-unnamed _ _ _ _ (n .result) (n .ensures .0) (v .result) (v .ensures .0) (c .before .before .before .if1 .left)
+          (c .if2 .taken)),
+      omega arith,
+    )
 
--- src/unpack.rt:118:5
 element-write-out : tie.Need-element-write-out
 element-write-out c = search needs
 
--- src/unpack.rt:119:18
 cast-out : tie.Need-cast-out
 cast-out c = search needs
 
--- src/unpack.rt:119:9
 add-out : tie.Need-add-out
 add-out c = search needs
 
--- src/unpack.rt:119:5
 element-write-out-2 : tie.Need-element-write-out-2
 element-write-out-2 c = search needs
 
--- src/unpack.rt:120:18
 add-put-big : tie.Need-add-put-big
 add-put-big c = search needs
 
--- src/unpack.rt:120:5
 put-big-requires : tie.Need-put-big-requires
 put-big-requires c κs = search needs
 
--- src/unpack.rt:121:52
 add-unpack-words : tie.Need-add-unpack-words
 add-unpack-words c = search needs
 
--- src/unpack.rt:121:5
 unpack-words-requires : tie.Need-unpack-words-requires
 unpack-words-requires c κs = search needs
 
--- src/unpack.rt:105:1
 returns-3 : tie.Need-returns-3
 returns-3 c =
     let n = c .before .before .before .before .before .before .before .before .before .before .number-to in
     let v = c .before .before .before .before .before .before .before .number48 in
-    let d = identity-done _ _ _ _ (n .result) (n .ensures .0) (v .result) (v .ensures .0) (c .before .before .before .before .before .before .before .before .if1 .left) (c .before .before .before .before .before .if2 .left) in
+    let d = identity-done _ _ _ _ (n .result) (n .ensures .0) (v .result) (v .ensures .0)
+    (c .before .before .before .before .before .before .before .before .if1 .left)
+    (c .before .before .before .before .before .if2 .left) in
     (c .unpack-words .ensures .0 ∙ rw (c .before .before .put-big .ensures) (sym d), omega arith)
 
 pub unpack-identity-spec : {M : Type 1} → statement M

@@ -1,10 +1,12 @@
-use Prim.Native.Nat.{ℕ}
-use mathlib.Core.Path.{_≡_, refl, sym, _∙_}
+-- `unpack_people`: what the confinement comes to after the user, the count and the groups, or nothing where the flags say so.
+-- Assumes nothing.
+use Prim.Native.Nat.{ℕ, _+_}
+use mathlib.Core.Path.{_≡_, sym, _∙_}
 use mathlib.Core.List.{List}
 use native.Mathlib.Omega.{arith}
 use Rattle.base.specs.Bytes.{Read}
 use Rattle.tokens.specs.Token.{confined}
-use Rattle.tokens.specs.Unpacking.{then, copied, groupOf, restOf, groupsOf, peopleOf}
+use Rattle.tokens.specs.Unpacking.{outcome, then, copied, groupOf, restOf, groupsOf, peopleOf}
 use Rattle.tokens.proofs.UnpackLaws.{
   after-refused,
   after-done,
@@ -17,99 +19,130 @@ use Rattle.tokens.proofs.UnpackLaws.{
 use borrow.Author.Needs.{needs}
 use Rattle.tokens.proofs.unpack.unpack_people.Statement.{statement}
 use Rattle.tokens.proofs.unpack.unpack_people.Tie as tie
-use Rattle.tokens.proofs.unpack.unpack_people.Reads as reads
-use Rattle.tokens.proofs.unpack.unpack_people.Lts as lts
-use Rattle.tokens.proofs.unpack.number_to.Reads as number-to-reads
-use Rattle.tokens.proofs.unpack.put_little.Reads as put-little-reads
-use Rattle.tokens.proofs.unpack.unpack_confinement.Reads as unpack-confinement-reads
-use Rattle.tokens.proofs.unpack.unpack_groups.Reads as unpack-groups-reads
-use Rattle.tokens.proofs.unpack.unpack_identity.Reads as unpack-identity-reads
 
 -- what follows the group count
 abbrev people : ℕ → List ℕ → ℕ → ℕ → Read (List ℕ)
 people flags s n at = then (copied groupOf n s at) (restOf (confined flags) s)
 
--- src/unpack.rt:219:9
 unpack-identity-requires : tie.Need-unpack-identity-requires
 unpack-identity-requires c κs = search needs
 
--- src/unpack.rt:221:9
 returns : tie.Need-returns
 unfolding peopleOf
 returns c =
-    let u = c .before .before .unpack-identity in
-    (sym (after-refused _ _ _ (u .result) _ (u .ensures .0) (groupsOf (c .before .before .before .before .before .args .flags) _) (c .if1 .taken)), omega arith)
+    let u = c .before .before .unpack-identity in (
+      sym (after-refused _ _ _ (u .result) _ (u .ensures .0) (groupsOf (c .before .before .before .before .before .args .flags) _)
+          (c .if1 .taken)),
+      omega arith,
+    )
 
--- src/unpack.rt:223:9
 number-to-requires : tie.Need-number-to-requires
 number-to-requires c κs = search needs
 
--- src/unpack.rt:225:9
-returns-2 : tie.Need-returns-2
+-- what the rest comes to after the user
+user : (c : tie.Else1) →
+    let a = c .before .before .before .before .before .args in
+    let u = c .before .before .unpack-identity in
+    outcome (peopleOf (a .flags) (a .s .now) (a .at)) (a .out .now) 12
+    ≡ outcome (groupsOf (a .flags) (a .s .now) (u .result .next)) (u .last .1 .1 .0) (u .result .to)
 unfolding peopleOf
-returns-2 c =
-    let f = c .before .before .before .before .before .before .before .before .args .flags in
-    let u = c .before .before .before .before .before .unpack-identity in
-    let d = after-done _ _ _ (u .result) _ (u .ensures .0) (groupsOf f _) (c .before .before .before .if1 .left) in
-    let n = c .before .before .number-to in
-    (sym (d ∙ counted-refused 256 _ _ (people f _) _ _ (n .result) (n .ensures .0) (c .if2 .taken)), omega arith)
+user c = let u = c .before .before .unpack-identity in after-done _ _ _ (u .result) _ (u .ensures .0)
+    (groupsOf (c .before .before .before .before .before .args .flags) _) (c .if1 .left)
 
--- src/unpack.rt:227:5
+returns-2 : tie.Need-returns-2
+returns-2 c =
+    let n = c .before .before .number-to in (
+      sym (user (c .before .before .before)
+          ∙ counted-refused 256 _ _ (people (c .before .before .before .before .before .before .before .before .args .flags) _) _ _
+          (n .result) (n .ensures .0) (c .if2 .taken)),
+      omega arith,
+    )
+
 put-little-requires : tie.Need-put-little-requires
 put-little-requires c κs = search needs
 
--- src/unpack.rt:228:61
 add-unpack-groups : tie.Need-add-unpack-groups
 add-unpack-groups c = search needs
 
--- src/unpack.rt:228:9
 unpack-groups-requires : tie.Need-unpack-groups-requires
 unpack-groups-requires c κs = search needs
 
--- src/unpack.rt:230:9
+-- after the count
+counted : (c : tie.After-put-little) →
+    let a = c .before .before .before .before .before .before .before .before .before .before .args in
+    let n = c .before .before .before .before .number-to .result in
+    outcome (peopleOf (a .flags) (a .s .now) (a .at)) (a .out .now) 12
+    ≡ outcome (people (a .flags) (a .s .now) (n .value) (n .next)) (c .put-little .last .0)
+    (c .before .before .before .before .before .before .before .unpack-identity .result .to + 4)
+counted c =
+    let n = c .before .before .before .before .number-to in
+    user (c .before .before .before .before .before)
+    ∙ counted-done 256 _ _ (people (c .before .before .before .before .before .before .before .before .before .before .args .flags) _) _ _
+    (n .result) (n .ensures .0) (c .before .before .if2 .left)
+    ∙ rw (sym (c .put-little .ensures))
+
 returns-3 : tie.Need-returns-3
-unfolding peopleOf
 returns-3 c =
-    let f = c .before .before .before .before .before .before .before .before .before .before .before .before .before .before .before .args .flags in
-    let u = c .before .before .before .before .before .before .before .before .before .before .before .before .unpack-identity in
-    let d = after-done _ _ _ (u .result) _ (u .ensures .0) (groupsOf f _) (c .before .before .before .before .before .before .before .before .before .before .if1 .left) in
-    let n = c .before .before .before .before .before .before .before .before .before .number-to in
-    let e = counted-done 256 _ _ (people f _) _ _ (n .result) (n .ensures .0) (c .before .before .before .before .before .before .before .if2 .left) in
     let g = c .before .before .unpack-groups in
-    let i = after-refused _ _ _ (g .result) _ (g .ensures .0) (restOf (confined f) _) (c .if3 .taken) in
-    (sym (d ∙ e ∙ rw (sym (c .before .before .before .before .before .put-little .ensures)) i), omega arith)
+    let r = restOf (confined
+    (c .before .before .before .before .before .before .before .before .before .before .before .before .before .before .before .args
+    .flags)) (c .before .before .before .before .before .before .before .before .before .before .before .before .before .before
+    .before .args .s .now) in (
+      sym (counted (c .before .before .before .before .before)
+          ∙ after-refused _ _ _ (g .result) _ (g .ensures .0) r (c .if3 .taken)),
+      omega arith,
+    )
 
--- src/unpack.rt:233:9
+-- after the groups
+grouped : (c : tie.Else3) →
+    let a = c .before .before .before .before .before .before .before .before .before .before .before .before .before .before .before
+    .args in
+    let g = c .before .before .unpack-groups in
+    outcome (peopleOf (a .flags) (a .s .now) (a .at)) (a .out .now) 12
+    ≡ outcome (restOf (confined (a .flags)) (a .s .now) (g .result .next)) (g .last .1 .1 .1 .0) (g .result .to)
+grouped c =
+    let g = c .before .before .unpack-groups in
+    let r = restOf (confined
+    (c .before .before .before .before .before .before .before .before .before .before .before .before .before .before .before .args
+    .flags)) (c .before .before .before .before .before .before .before .before .before .before .before .before .before .before
+    .before .args .s .now) in
+    counted (c .before .before .before .before .before) ∙ after-done _ _ _ (g .result) _ (g .ensures .0) r (c .if3 .left)
+
 returns-4 : tie.Need-returns-4
-unfolding peopleOf
 returns-4 c =
-    let f = c .before .before .before .before .before .before .before .before .before .before .before .before .before .before .before .before .args .flags in
-    let u = c .before .before .before .before .before .before .before .before .before .before .before .before .before .unpack-identity in
-    let d = after-done _ _ _ (u .result) _ (u .ensures .0) (groupsOf f _) (c .before .before .before .before .before .before .before .before .before .before .before .if1 .left) in
-    let n = c .before .before .before .before .before .before .before .before .before .before .number-to in
-    let e = counted-done 256 _ _ (people f _) _ _ (n .result) (n .ensures .0) (c .before .before .before .before .before .before .before .before .if2 .left) in
     let g = c .before .before .before .unpack-groups in
-    let i = after-done _ _ _ (g .result) _ (g .ensures .0) (restOf (confined f) _) (c .before .if3 .left) in
-    let j = rest-none f _ _ _ _ (c .if4 .taken) in
-    (step-left _ _ _ (g .result) _ (g .ensures .0) (c .before .if3 .left) ∙ sym (d ∙ e ∙ rw (sym (c .before .before .before .before .before .before .put-little .ensures)) (i ∙ j)), omega arith)
+    let done = step-left _ _ _ (g .result) _ (g .ensures .0) (c .before .if3 .left) in
+    let a = c .before .before .before .before .before .before .before .before .before .before .before .before .before .before .before
+    .before .args in (
+      done ∙ sym (grouped (c .before) ∙ rest-none (a .flags) _ _ _ _ (c .if4 .taken)),
+      omega (
+        arith,
+        g .ensures .1,
+        c .before .before .before .before .before .before .before .before .before .before .before .before
+            .before .unpack-identity .ensures .1,
+        c .before .before .before .before .before .before .before .before .before .before
+            .number-to .ensures .1,
+      ),
+    )
 
--- src/unpack.rt:235:5
 unpack-confinement-requires : tie.Need-unpack-confinement-requires
 unpack-confinement-requires c κs = search needs
 
--- src/unpack.rt:215:1
 returns-5 : tie.Need-returns-5
-unfolding peopleOf
 returns-5 c =
-    let f = c .before .before .before .before .before .before .before .before .before .before .before .before .before .before .before .before .before .before .args .flags in
-    let u = c .before .before .before .before .before .before .before .before .before .before .before .before .before .before .before .unpack-identity in
-    let d = after-done _ _ _ (u .result) _ (u .ensures .0) (groupsOf f _) (c .before .before .before .before .before .before .before .before .before .before .before .before .before .if1 .left) in
-    let n = c .before .before .before .before .before .before .before .before .before .before .before .before .number-to in
-    let e = counted-done 256 _ _ (people f _) _ _ (n .result) (n .ensures .0) (c .before .before .before .before .before .before .before .before .before .before .if2 .left) in
-    let g = c .before .before .before .before .before .unpack-groups in
-    let i = after-done _ _ _ (g .result) _ (g .ensures .0) (restOf (confined f) _) (c .before .before .before .if3 .left) in
-    let j = rest-some f _ _ _ _ (c .before .before .if4 .left) in
-    (c .unpack-confinement .ensures .0 ∙ sym (d ∙ e ∙ rw (sym (c .before .before .before .before .before .before .before .before .put-little .ensures)) (i ∙ j)), omega arith)
+    let a = c .before .before .before .before .before .before .before .before .before .before .before .before .before .before .before
+    .before .before .before .args in
+    let w = c .unpack-confinement in (
+      w .ensures .0 ∙ sym (grouped (c .before .before .before) ∙ rest-some (a .flags) _ _ _ _ (c .before .before .if4 .left)),
+      omega (
+        arith,
+        w .ensures .1,
+        c .before .before .before .before .before .unpack-groups .ensures .1,
+        c .before .before .before .before .before .before .before .before .before .before .before .before .before .before .before
+            .unpack-identity .ensures .1,
+        c .before .before .before .before .before .before .before .before .before .before .before .before .number-to .ensures .1,
+      ),
+    )
 
 pub unpack-people-spec : {M : Type 1} → statement M
 unpack-people-spec =

@@ -1,4 +1,6 @@
-use Prim.Native.Nat.{ℕ, _+_, _*_, _<_, _≤_}
+-- `unpack_words`: what the words that are left come to from here is what all came to from the start. The measure is how many are left.
+-- Assumes nothing.
+use Prim.Native.Nat.{_+_, _*_, _≤_}
 use mathlib.Core.Path.{_≡_, refl, sym, _∙_}
 use native.Mathlib.Omega.{arith}
 use borrow.Author.Needs.{needs}
@@ -6,10 +8,6 @@ use Rattle.tokens.specs.Unpacking.{outcome, copied, wordAt}
 use Rattle.tokens.proofs.UnpackLaws.{copied-none, copied-refused, copied-done, word-refused, word-done}
 use Rattle.tokens.proofs.unpack.unpack_words.Statement.{statement}
 use Rattle.tokens.proofs.unpack.unpack_words.Tie as tie
-use Rattle.tokens.proofs.unpack.unpack_words.Reads as reads
-use Rattle.tokens.proofs.unpack.unpack_words.Lts as lts
-use Rattle.base.proofs.number32.Reads as number32-reads
-use Rattle.tokens.proofs.unpack.put_little.Reads as put-little-reads
 
 abbrev Inv-loop : tie.InvT-loop
 Inv-loop s at n out₀ o from₀ to₀ more₀ out from to more =
@@ -19,15 +17,12 @@ Inv-loop s at n out₀ o from₀ to₀ more₀ out from to more =
 abbrev μ-loop : tie.MeasureT-loop
 μ-loop s at n out₀ o from₀ to₀ more₀ out from to more = more
 
--- src/unpack.rt:67:5
 loop-holds : tie.Need-loop-holds Inv-loop μ-loop
 loop-holds c = (refl, c .before .pre, refl)
 
--- src/unpack.rt:68:13
 number32-requires : tie.Need-number32-requires Inv-loop μ-loop
 number32-requires c κs = search needs
 
--- src/unpack.rt:70:13
 returns : tie.Need-returns Inv-loop μ-loop
 returns c =
     let i = c .before .before .before .before .loop .inv in
@@ -35,23 +30,18 @@ returns c =
     let w = word-refused _ _ _ _ (n .result) (n .ensures .0) (c .if1 .taken) in
     (sym (i .2 ∙ copied-refused _ _ _ _ _ _ (c .before .before .before .loop-test .taken) w), omega arith)
 
--- src/unpack.rt:72:9
 put-little-requires : tie.Need-put-little-requires Inv-loop μ-loop
 put-little-requires c κs = search needs
 
--- src/unpack.rt:74:9
 add-to : tie.Need-add-to Inv-loop μ-loop
 add-to c = search needs
 
--- src/unpack.rt:75:9
 sub-more : tie.Need-sub-more Inv-loop μ-loop
 sub-more c = search needs
 
--- src/unpack.rt:67:5
 loop-less : tie.Need-loop-less Inv-loop μ-loop
 loop-less c = search needs
 
--- src/unpack.rt:67:5
 loop-again : tie.Need-loop-again Inv-loop μ-loop
 loop-again c =
     let i = c .before .before .before .before .before .before .loop .inv in
@@ -60,7 +50,6 @@ loop-again c =
     let d = copied-done _ _ _ _ _ _ _ _ _ (c .before .before .before .before .before .loop-test .taken) w in
     (omega arith, omega arith, i .2 ∙ d ∙ rw (sym (c .put-little .ensures)))
 
--- src/unpack.rt:59:1
 returns-2 : tie.Need-returns-2 Inv-loop μ-loop
 returns-2 c =
     let i = c .before .loop .inv in

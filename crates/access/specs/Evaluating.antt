@@ -1,0 +1,47 @@
+-- What the evaluation finds, read from the bytes of a flat listing: `foundOf` of Granted, with the token in its listing (EvaluatingLaws,
+-- `found-listed`). The confinement identity stands at a place that the reader of tokens names.
+use Prim.Native.Nat.{ℕ}
+use mathlib.Core.List.{List}
+use mathlib.Core.Bool.{Bool, true, false, cond}
+use Rattle.base.specs.Bytes.{u32At}
+use Rattle.base.specs.Bits.{and}
+use Rattle.lists.specs.Acl.{entriesOf}
+use Rattle.tokens.specs.Crowd.{Member, crowdAt, userPlace}
+use Rattle.passes.specs.Matching.{hitsOf}
+use Rattle.passes.specs.NormalEvaluation.{Dacl, listGives, normalOf}
+use Rattle.passes.specs.Confinement.{confines, everything}
+use Rattle.policy.specs.Rules.{Lists, ruledBy}
+use Rattle.access.specs.declared.answer.Found.{Found}
+
+-- the normal identities, the flags, and the enabled privileges as far as they are read: bits 8 and 9 stand in the lower word
+abbrev pub crowdIn : List ℕ → List Member
+crowdIn l = crowdAt true l userPlace
+
+abbrev pub flagsIn : List ℕ → ℕ
+flagsIn l = u32At l 0
+
+abbrev pub privilegesIn : List ℕ → ℕ
+privilegesIn l = u32At l 4
+
+-- a list's bytes, where it is present
+abbrev pub daclAs : Bool → List ℕ → Dacl
+daclAs present l = record { present = present; entries = entriesOf l }
+
+-- the bits that confinement leaves
+unfoldable pub confinementIn : ℕ → List ℕ → ℕ → List ℕ → List ℕ → Dacl → ℕ
+confinementIn kind l at owner self d =
+    let ms = crowdAt false l at in
+    cond (confines (flagsIn l)) (listGives kind ms (hitsOf ms owner self) d) everything
+
+unfoldable pub foundIn : ℕ → List ℕ → ℕ → List ℕ → List ℕ → Dacl → List Lists → Found
+foundIn kind l at owner self d rules =
+    let h = hitsOf (crowdIn l) owner self in
+    let n = normalOf kind (crowdIn l) h (privilegesIn l) d in
+    let c = and n (confinementIn kind l at owner self d) in
+    let r = ruledBy kind (crowdIn l) h (privilegesIn l) rules in
+    record {
+      normal = record { 0 = n };
+      confined = record { 0 = c };
+      ruled = record { 0 = and c (r .left .0) };
+      differ = r .differ;
+    }

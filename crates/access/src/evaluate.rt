@@ -1,0 +1,82 @@
+// The evaluation over a token's flat listing: normal evaluation, confinement and the rules of the
+// policy. Every list is walked by the one pass; the table and the hits of the normal identities are
+// made once and serve the descriptor's list and every rule.
+ghost use mathlib.Core.Path.{_≡_};
+ghost use Rattle.passes.specs.Confinement.{confines};
+ghost use Rattle.policy.specs.Found as policed;
+ghost use Rattle.access.specs.Evaluating.{daclAs, confinementIn, foundIn};
+use crate::answer::Found;
+use lists::Rights;
+
+// Where the user stands in a listing.
+const USER: usize = 12;
+
+// No bit is taken away.
+const EVERYTHING: u32 = 0xFFFFFFFF;
+
+// Whether confinement applies: flag 1, confined, without flag 2, exempt.
+fn confines(flags: u32) -> bool
+    ensures { λ r. ⌜ r ≡ confines flags ⌝ }
+{
+    if flags & 1 == 0 {
+        return false;
+    }
+    flags & 2 == 0
+}
+
+// The bits that confinement leaves: the list alone, with the confinement identities that stand at
+// a place of the listing, for allow and deny both.
+fn confinement(
+    kind: u32,
+    listing: &[u8],
+    place: usize,
+    owner: &[u8],
+    me: &[u8],
+    present: bool,
+    list: &[u8],
+) -> Rights
+    ensures { λ r. ⌜ r .0 ≡ confinementIn kind (now (listing .entry)) place (now (owner .entry))
+        (now (me .entry)) (daclAs present (now (list .entry))) ⌝ }
+{
+    if !confines(base::u32_at(listing, 0)) {
+        return Rights(EVERYTHING);
+    }
+    let table = passes::marks(listing, place, false);
+    let hits = passes::hits(listing, place, false, owner, me);
+    let walked = passes::pass(kind, list, listing, place, false, &table, hits);
+    passes::listed(kind, present, walked)
+}
+
+// What is found for a kind. The confinement identity stands at `place` of the listing, where the
+// token is confined; `list` is the descriptor's, and empty where it is not present.
+pub fn found_in(
+    kind: u32,
+    listing: &[u8],
+    place: usize,
+    owner: &[u8],
+    me: &[u8],
+    present: bool,
+    list: &[u8],
+    policy: &[u8],
+) -> Found
+    ensures { λ r. ⌜ r ≡ foundIn kind (now (listing .entry)) place (now (owner .entry))
+        (now (me .entry)) (daclAs present (now (list .entry)))
+        (policed.foundOf (now (policy .entry))) ⌝ }
+{
+    let table = passes::marks(listing, USER, true);
+    let hits = passes::hits(listing, USER, true, owner, me);
+    let privileges = base::u32_at(listing, 4) as u64;
+    let walked = passes::pass(kind, list, listing, USER, true, &table, hits);
+    let normal = passes::normal(kind, present, walked, hits, privileges);
+    let kept = confinement(kind, listing, place, owner, me, present, list);
+    let rules = policy::ruled_by(policy, kind, listing, USER, &table, hits, privileges);
+    let confined = Rights(normal.0 & kept.0);
+    let ruled = Rights(confined.0 & rules.left.0);
+    let differ = rules.differ;
+    Found {
+        normal,
+        confined,
+        ruled,
+        differ,
+    }
+}

@@ -1,0 +1,85 @@
+// What is found for a kind, whatever the mask: the numbers 3 to 10 in the page's order, then the
+// evaluation. Requests for many masks are answered from one finding.
+ghost use mathlib.Core.Path.{_≡_};
+ghost use Rattle.lists.specs.Descriptor as descriptor;
+ghost use Rattle.policy.specs.Policy as policy;
+ghost use Rattle.access.specs.Status.{selfFits};
+ghost use Rattle.access.specs.Findings.{findingsOf};
+use crate::answer::Findings;
+use crate::answer::stopped;
+use crate::evaluate::found_in;
+use lists::Verdict;
+use policy::Standing;
+
+// Whether a self identity is empty or exactly one SID.
+fn self_fits(me: &[u8]) -> bool
+    ensures { λ r. ⌜ r ≡ selfFits (now (me .entry)) ⌝ }
+{
+    if me.len() == 0 {
+        return true;
+    }
+    lists::is_sid(me)
+}
+
+// The page's number for a descriptor's verdict.
+fn verdict_number(v: Verdict) -> u32
+    ensures { λ r. ⌜ r ≡ descriptor.numberOf v ⌝ }
+{
+    match v {
+        Verdict::Whole => 0,
+        Verdict::Misshapen => 6,
+        Verdict::Ownerless => 7,
+        Verdict::ForeignEntry => 8,
+    }
+}
+
+// The page's number for a policy's standing.
+fn standing_number(v: Standing) -> u32
+    ensures { λ r. ⌜ r ≡ policy.numberOf v ⌝ }
+{
+    match v {
+        Standing::Sound => 0,
+        Standing::Misshapen => 9,
+        Standing::Unread => 10,
+    }
+}
+
+// What is found, or the number of a refusal.
+pub fn findings(kind: u32, token: &[u8], me: &[u8], descriptor: &[u8], policy: &[u8]) -> Findings
+    ensures { λ r. ⌜ r ≡ findingsOf kind (now (token .entry)) (now (me .entry))
+        (now (descriptor .entry)) (now (policy .entry)) ⌝ }
+{
+    let listed = tokens::listing_of(token);
+    if listed.status != 0 {
+        return stopped(listed.status);
+    }
+    if !self_fits(me) {
+        return stopped(5);
+    }
+    let parts = lists::read(descriptor);
+    let v = parts.verdict;
+    let verdict = verdict_number(v);
+    if verdict != 0 {
+        return stopped(verdict);
+    }
+    let standing = standing_number(policy::judge_policy(policy));
+    if standing != 0 {
+        return stopped(standing);
+    }
+    let owner = lists::part(descriptor, parts.owner);
+    let list = lists::part(descriptor, parts.dacl);
+    let bytes = listed.bytes;
+    let n = listed.length;
+    let place = listed.confined_at;
+    let found = found_in(
+        kind,
+        &bytes[0..n],
+        place,
+        owner,
+        me,
+        !parts.null,
+        list,
+        policy,
+    );
+    Findings { status: 0, found }
+}

@@ -1,0 +1,2 @@
+-- The laws of what the exported functions hand out.
+mod ToldLaws

@@ -1,0 +1,19 @@
+-- An answer and a conversion, handed out part by part (specs: Told).
+-- Assumes nothing.
+use Prim.Native.Nat.{ℕ}
+use mathlib.Core.Path.{_≡_, ap}
+use mathlib.Core.List.{List}
+use lib.Seq.{sets}
+use Rattle.tokens.specs.Converters.{Conversion, answered}
+use Rattle.tokens.specs.declared.Converted.{Converted}
+use Rattle.access.specs.declared.answer.Answer.{Answer}
+use Rattle.pirasteh.specs.Told.{Told, Handed}
+
+-- of equal answers the same is told
+pub told-of : {x answer : Answer} {r g a s : ℕ} → x ≡ answer → Told x r g a s → Told answer r g a s
+told-of e t = rw e at t
+
+pub handed-made : (c : Conversion) (x : Converted) (before after : List ℕ) → x ≡ answered c → after ≡ sets before 0 (c .bytes) →
+    Handed c before after (x .length) (x .status)
+handed-made c x before after e f =
+    record { status = ap (λ (y : Converted). y .status) e; written = ap (λ (y : Converted). y .length) e; buffer = f }

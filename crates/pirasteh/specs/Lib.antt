@@ -1,0 +1,2 @@
+-- What the exported functions hand out.
+pub mod Told

@@ -1,0 +1,2 @@
+-- The laws that the program's slices need.
+mod RoomLaws

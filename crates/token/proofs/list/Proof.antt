@@ -1,0 +1,52 @@
+-- `list` meets its contract, which says nothing but that it is safe: what the converter wrote lies in the room.
+-- Assumes nothing.
+use lib.ListN.{replicate}
+use borrow.Author.Needs.{needs}
+use Rattle.tokens.specs.Converters.{asListing}
+use Rattle.token.proofs.RoomLaws.{written-inside}
+use Rattle.token.proofs.list.Statement.{statement}
+use Rattle.token.proofs.list.Tie as tie
+
+slice-aggregate-to-listing : tie.Need-slice-aggregate-to-listing
+slice-aggregate-to-listing c = search needs
+
+to-listing-requires : tie.Need-to-listing-requires
+to-listing-requires c κs = search needs
+
+print-refusal-requires : tie.Need-print-refusal-requires
+print-refusal-requires c κs = search needs
+
+returns : tie.Need-returns
+returns c = search needs
+
+sub-write-all : tie.Need-sub-write-all
+sub-write-all c = search needs
+
+part-write-all-start : tie.Need-part-write-all-start
+part-write-all-start c = search needs
+
+part-write-all-end : tie.Need-part-write-all-end
+part-write-all-end c =
+    let r = c .before .before .before .before .to-listing in
+    let file = c .before .before .before .before .before .before .before .args .file .now in
+    written-inside (replicate 22940 0) _ (asListing file) (r .result) (r .ensures .0) (r .ensures .1)
+
+write-all-requires : tie.Need-write-all-requires
+write-all-requires c κs = search needs
+
+returns-2 : tie.Need-returns-2
+returns-2 c = search needs
+
+pub list-spec : {M : Type 1} → statement M
+list-spec =
+    tie.close
+    (tie.spec
+    slice-aggregate-to-listing
+    to-listing-requires
+    print-refusal-requires
+    returns
+    sub-write-all
+    part-write-all-start
+    part-write-all-end
+    write-all-requires
+    returns-2)

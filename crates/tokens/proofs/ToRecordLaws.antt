@@ -1,0 +1,57 @@
+-- Laws of the way from a listing to its record: what the judge says of it, and the answer within a lent buffer. For `to_record`.
+-- Assumes nothing.
+use Prim.Native.Nat.{ℕ, _<_, _≤_}
+use mathlib.Core.Path.{_≡_, sym, ap, _∙_}
+use mathlib.Core.List.{List}
+use native.Mathlib.Omega.{arith}
+use lib.Dec.{T}
+use lib.Pow.{areBytes}
+use lib.ListN.{length}
+use borrow.Author.Tests.{lt-ltb, le-ltb}
+use Rattle.tokens.specs.FlatListing.{readListing}
+use Rattle.tokens.specs.TokenRecord.{recordOf}
+use Rattle.tokens.specs.Converters.{asRecord, fitted, refusal, result}
+use Rattle.tokens.specs.Judging.{judgedOf}
+use Rattle.tokens.specs.Packing.{recordBytes, Packable}
+use Rattle.tokens.specs.declared.judging.Judged.{Judged}
+use Rattle.tokens.proofs.RoundTrip.{listing-form, converted-kept}
+use Rattle.tokens.proofs.PackedLaws.{packed-listing, packable-listing}
+use Rattle.tokens.proofs.ConvertLaws.{Taken, judged-taken, judged-refused}
+
+module _ (s : List ℕ) (j : Judged) (bytes : T (areBytes s)) (is : j ≡ judgedOf (readListing s)) where
+  status-is : j .status ≡ judgedOf (readListing s) .status
+  status-is = ap (λ (x : Judged). x .status) is
+
+  taken : j .status ≡ 0 → Taken (readListing s)
+  taken h = judged-taken (readListing s) (sym status-is ∙ h)
+
+  pub judged-packable : j .status ≡ 0 → Packable s
+  judged-packable h =
+      let t = taken h in
+      let f = listing-form s (t .token) (t .end) bytes (t .read) in
+      rw (f .0) (packable-listing (t .token) (f .1))
+
+  record-of : j .status ≡ 0 → asRecord s ≡ result (recordBytes s)
+  unfolding asRecord
+  record-of h =
+      let t = taken h in
+      let f = listing-form s (t .token) (t .end) bytes (t .read) in
+      let e : recordBytes s ≡ recordOf (t .token) = ap recordBytes (f .0) ∙ packed-listing (t .token) (f .1) in
+      converted-kept recordOf (readListing s) (t .token) (t .end) (t .read) (t .kept) ∙ ap result (sym e)
+
+  -- ---- the answer within a lent buffer
+
+  module _ (room : ℕ) where
+    pub fitted-refused : (j .status ≡ 0 → ⊥) → fitted room (asRecord s) ≡ refusal (j .status)
+    unfolding fitted asRecord
+    fitted-refused h =
+        let r = judged-refused recordOf (readListing s) (λ z. h (status-is ∙ z)) in
+        rw (r .0, le-ltb room 0 (omega arith)) (ap refusal (sym status-is))
+
+    pub fitted-longer : (n : ℕ) → j .status ≡ 0 → n ≡ length (recordBytes s) → room < n → fitted room (asRecord s) ≡ refusal 11
+    unfolding fitted
+    fitted-longer n h e k = rw (record-of h, lt-ltb room (length (recordBytes s)) (omega arith))
+
+    pub fitted-within : (n : ℕ) → j .status ≡ 0 → n ≡ length (recordBytes s) → n ≤ room → fitted room (asRecord s) ≡ result (recordBytes s)
+    unfolding fitted
+    fitted-within n h e k = rw (record-of h, le-ltb room (length (recordBytes s)) (omega arith))

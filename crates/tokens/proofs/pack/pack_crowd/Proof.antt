@@ -1,0 +1,106 @@
+-- `pack_crowd` meets its contract: the identity, the count and the members, written one after the other. Assumes nothing.
+use Prim.Native.Nat.{_+_}
+use mathlib.Core.Path.{refl, sym, _∙_}
+use mathlib.Core.List.{_++_}
+use native.Mathlib.Omega.{arith}
+use Rattle.base.specs.Bytes.{u32At, part}
+use Rattle.base.specs.Sevens.{packed}
+use Rattle.lists.proofs.SidLaws.{sid-of-part}
+use Rattle.tokens.specs.TokenRecord.{packIdentity}
+use Rattle.tokens.specs.Packing.{membersBytes}
+use Rattle.tokens.proofs.WriteLaws.{room-first, room-after, wrote-append, wrote-same}
+use Rattle.tokens.proofs.PackLaws.{starts, crowd-is, crowd-end-is, crowd-members}
+use borrow.Author.Needs.{needs}
+use Rattle.tokens.proofs.pack.pack_crowd.Statement.{statement}
+use Rattle.tokens.proofs.pack.pack_crowd.Tie as tie
+
+sid-end-requires : tie.Need-sid-end-requires
+sid-end-requires c κs = search needs
+
+sub-w : tie.Need-sub-w
+sub-w c =
+    let z = c .before .before in
+    let e = c .sid-end in
+    omega (arith, starts (z .args .s .now) (z .args .at) (e .result) (e .ensures .0) (z .pre .0 .identity))
+
+part-w-start : tie.Need-part-w-start
+part-w-start c =
+    let z = c .before .before in
+    let e = c .sid-end in
+    starts (z .args .s .now) (z .args .at) (e .result) (e .ensures .0) (z .pre .0 .identity)
+
+part-w-end : tie.Need-part-w-end
+part-w-end c = search needs
+
+pack-identity-requires : tie.Need-pack-identity-requires
+pack-identity-requires c κs =
+    let z = c .before .before .before .before in
+    let e = c .before .before .sid-end in
+    let n = u32At (z .args .s .now) (e .result) in
+    let room = rw (crowd-is (z .args .attrs) (z .args .s .now) (z .args .at) (e .result) n (e .ensures .0) refl) at (z .pre .1) in
+    let ms = membersBytes (z .args .attrs) n (z .args .s .now) (e .result + 4) in (
+      sid-of-part (z .args .s .now) (z .args .at) (e .result) (sym (e .ensures .0)) (λ q. z .pre .0 .identity (sym (e .ensures .0) ∙ q)),
+      room-first (z .args .o) 28021 (packIdentity (part (z .args .s .now) (z .args .at) (e .result))) (packed n ++ ms) room,
+    )
+
+u32-at-requires : tie.Need-u32-at-requires
+u32-at-requires c κs = search needs
+
+cast-put : tie.Need-cast-put
+cast-put c = search needs
+
+put-requires : tie.Need-put-requires
+put-requires c κs =
+    let z = c .before .before .before .before .before .before .before in
+    let e = c .before .before .before .before .before .sid-end in
+    let n = c .before .u32-at in
+    let room =
+    rw (crowd-is (z .args .attrs) (z .args .s .now) (z .args .at) (e .result) (n .result) (e .ensures .0) (n .ensures)) at (z .pre .1) in
+    let ms = membersBytes (z .args .attrs) (n .result) (z .args .s .now) (e .result + 4) in
+    room-first _ 28021 (packed (n .result)) ms (room-after (packed (n .result) ++ ms) (c .before .before .pack-identity .ensures) room)
+
+add-pack-members : tie.Need-add-pack-members
+add-pack-members c = search needs
+
+cast-pack-members : tie.Need-cast-pack-members
+cast-pack-members c = search needs
+
+pack-members-requires : tie.Need-pack-members-requires
+pack-members-requires c κs =
+    let z = c .before .before .before .before .before .before .before .before .before in
+    let e = c .before .before .before .before .before .before .before .sid-end in
+    let n = c .before .before .before .u32-at in
+    let room =
+    rw (crowd-is (z .args .attrs) (z .args .s .now) (z .args .at) (e .result) (n .result) (e .ensures .0) (n .ensures)) at (z .pre .1) in
+    let i = c .before .before .before .before .pack-identity in
+    let ms = membersBytes (z .args .attrs) (n .result) (z .args .s .now) (e .result + 4) in (
+      crowd-members _ _ _ _ _ (e .ensures .0) (n .ensures) (z .pre .0),
+      room-after ms (c .before .put .ensures) (room-after (packed (n .result) ++ ms) (i .ensures) room),
+    )
+
+returns : tie.Need-returns
+returns c =
+    let e = c .before .before .before .before .before .before .before .before .sid-end in
+    let n = c .before .before .before .before .u32-at in
+    let i = c .before .before .before .before .before .pack-identity in (
+      wrote-same (sym (crowd-is _ _ _ _ _ (e .ensures .0) (n .ensures)))
+          (wrote-append (i .ensures) (wrote-append (c .before .before .put .ensures) (c .pack-members .ensures .0))),
+      c .pack-members .ensures .1 ∙ sym (crowd-end-is _ _ _ _ _ (e .ensures .0) (n .ensures)),
+    )
+
+pub pack-crowd-spec : {M : Type 1} → statement M
+pack-crowd-spec =
+    tie.close
+    (tie.spec
+    sid-end-requires
+    sub-w
+    part-w-start
+    part-w-end
+    pack-identity-requires
+    u32-at-requires
+    cast-put
+    put-requires
+    add-pack-members
+    cast-pack-members
+    pack-members-requires
+    returns)

@@ -1,0 +1,91 @@
+-- `pack_member` meets its contract: the part up to the place where the SID ends is one SID, and its word stands there. Assumes nothing.
+use mathlib.Core.Path.{sym, _∙_}
+use native.Mathlib.Omega.{arith}
+use borrow.Author.Tests.{not-true, not-false}
+use Rattle.base.specs.Sevens.{packed}
+use Rattle.lists.proofs.SidLaws.{sid-of-part}
+use Rattle.tokens.proofs.WriteLaws.{room-after, wrote-append, wrote-same}
+use Rattle.tokens.proofs.PackLaws.{starts, member-word, member-plain, member-room, member-end-word, member-end-plain}
+use borrow.Author.Needs.{needs}
+use Rattle.tokens.proofs.pack.pack_member.Statement.{statement}
+use Rattle.tokens.proofs.pack.pack_member.Tie as tie
+
+sid-end-requires : tie.Need-sid-end-requires
+sid-end-requires c κs = search needs
+
+sub-w : tie.Need-sub-w
+sub-w c =
+    let z = c .before .before in
+    let e = c .sid-end in
+    omega (arith, starts (z .args .s .now) (z .args .at) (e .result) (e .ensures .0) (z .pre .0))
+
+part-w-start : tie.Need-part-w-start
+part-w-start c =
+    let z = c .before .before in
+    let e = c .sid-end in
+    starts (z .args .s .now) (z .args .at) (e .result) (e .ensures .0) (z .pre .0)
+
+part-w-end : tie.Need-part-w-end
+part-w-end c = search needs
+
+pack-identity-requires : tie.Need-pack-identity-requires
+pack-identity-requires c κs =
+    let z = c .before .before .before .before in
+    let e = c .before .before .sid-end in (
+      sid-of-part (z .args .s .now) (z .args .at) (e .result) (sym (e .ensures .0)) (λ q. z .pre .0 (sym (e .ensures .0) ∙ q)),
+      member-room (z .args .attrs) (z .args .s .now) (z .args .at) (e .result) (z .args .o) 28021 (e .ensures .0) (z .pre .1),
+    )
+
+returns : tie.Need-returns
+returns c =
+    let e = c .before .before .before .before .sid-end in
+    let z = c .before .before .before .before .before .before in
+    let t = not-true (z .args .attrs) (c .if1 .taken) in (
+      wrote-same (sym (member-plain _ _ _ _ t (e .ensures .0))) (c .before .pack-identity .ensures),
+      member-end-plain _ _ _ _ t (e .ensures .0),
+    )
+
+u32-at-requires : tie.Need-u32-at-requires
+u32-at-requires c κs = search needs
+
+add-t11 : tie.Need-add-t11
+add-t11 c = search needs
+
+cast-put : tie.Need-cast-put
+cast-put c = search needs
+
+put-requires : tie.Need-put-requires
+put-requires c κs =
+    let z = c .before .before .before .before .before .before .before .before in
+    let e = c .before .before .before .before .before .before .sid-end in
+    let v = c .before .u32-at in
+    let t = not-false (z .args .attrs) (c .before .before .if1 .left) in
+    let m = member-word (z .args .attrs) (z .args .s .now) (z .args .at) (e .result) (v .result) t (e .ensures .0) (v .ensures) in
+    room-after (packed (v .result)) (c .before .before .before .pack-identity .ensures) (rw m at (z .pre .1))
+
+returns-2 : tie.Need-returns-2
+returns-2 c =
+    let e = c .before .before .before .before .before .before .before .sid-end in
+    let v = c .before .before .u32-at in
+    let z = c .before .before .before .before .before .before .before .before .before in
+    let t = not-false (z .args .attrs) (c .before .before .before .if1 .left) in (
+      wrote-same (sym (member-word _ _ _ _ _ t (e .ensures .0) (v .ensures)))
+          (wrote-append (c .before .before .before .before .pack-identity .ensures) (c .put .ensures)),
+      member-end-word _ _ _ _ t (e .ensures .0),
+    )
+
+pub pack-member-spec : {M : Type 1} → statement M
+pack-member-spec =
+    tie.close
+    (tie.spec
+    sid-end-requires
+    sub-w
+    part-w-start
+    part-w-end
+    pack-identity-requires
+    returns
+    u32-at-requires
+    add-t11
+    cast-put
+    put-requires
+    returns-2)

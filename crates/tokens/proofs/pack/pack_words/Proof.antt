@@ -1,0 +1,68 @@
+-- `pack_words` meets its contract. The loop's invariant: writing all words at `o` is writing those that are left at `to` (Left). The
+-- measure is the count that is left. Assumes nothing.
+use Prim.Native.Nat.{_+_, _*_, _≤_}
+use native.Mathlib.Omega.{arith}
+use borrow.Author.Needs.{needs}
+use lib.ListN.{length}
+use Rattle.base.specs.Sevens.{packed}
+use Rattle.tokens.specs.TokenRecord.{packedWords}
+use Rattle.tokens.proofs.WriteLaws.{Left, left-start, left-room, left-step, left-done}
+use Rattle.tokens.proofs.PackLaws.{words-none, words-more}
+use Rattle.tokens.proofs.pack.pack_words.Statement.{statement}
+use Rattle.tokens.proofs.pack.pack_words.Tie as tie
+
+abbrev Inv-loop : tie.InvT-loop
+Inv-loop w n out₀ o from₀ to₀ more₀ out from to more =
+    Left out₀ o (packedWords n w 8) out to (packedWords more w from) × (from + 4 * more ≤ 68) × (o + length (packedWords n w 8) ≤ 28021)
+
+abbrev μ-loop : tie.MeasureT-loop
+μ-loop w n out₀ o from₀ to₀ more₀ out from to more = more
+
+loop-holds : tie.Need-loop-holds Inv-loop μ-loop
+loop-holds c = (left-start _ _ _, omega (arith, c .before .pre .0), c .before .pre .1)
+
+u32-at-requires : tie.Need-u32-at-requires Inv-loop μ-loop
+u32-at-requires c κs = search needs
+
+cast-put : tie.Need-cast-put Inv-loop μ-loop
+cast-put c = search needs
+
+put-requires : tie.Need-put-requires Inv-loop μ-loop
+put-requires c κs =
+    let i = c .before .before .before .loop .inv in
+    let t = c .before .before .loop-test .taken in
+    left-room (i .0) (packed (c .u32-at .result)) _ 28021 (words-more _ _ _ _ t (c .u32-at .ensures)) (i .2)
+
+add-from : tie.Need-add-from Inv-loop μ-loop
+add-from c = search needs
+
+sub-more : tie.Need-sub-more Inv-loop μ-loop
+sub-more c = search needs
+
+loop-less : tie.Need-loop-less Inv-loop μ-loop
+loop-less c = search needs
+
+loop-again : tie.Need-loop-again Inv-loop μ-loop
+loop-again c =
+    let i = c .before .before .before .before .loop .inv in
+    let t = c .before .before .before .loop-test .taken in
+    (left-step (i .0) _ _ (words-more _ _ _ _ t (c .before .u32-at .ensures)) (c .put .ensures), omega (arith, i .1), i .2)
+
+returns : tie.Need-returns Inv-loop μ-loop
+returns c = let i = c .before .loop .inv in left-done (i .0) (words-none _ _ _ (c .loop-test .left))
+
+pub pack-words-spec : {M : Type 1} → statement M
+pack-words-spec =
+    tie.close
+    (tie.spec
+    Inv-loop
+    μ-loop
+    loop-holds
+    u32-at-requires
+    cast-put
+    put-requires
+    add-from
+    sub-more
+    loop-less
+    loop-again
+    returns)

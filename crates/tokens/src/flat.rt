@@ -1,0 +1,77 @@
+// A packed record as a flat listing: unpacked into a buffer, judged there, and handed out.
+ghost use mathlib.Core.Path.{_≡_};
+ghost use Prim.Native.Nat.{_≤_};
+ghost use lib.ListN.{length};
+ghost use lib.Seq.{sets};
+ghost use Rattle.tokens.specs.Converters.{asListing, fitted, answered};
+ghost use Rattle.tokens.specs.Judging.{Listed};
+use crate::Converted;
+use crate::judging::judge;
+use crate::unpack::unpack;
+
+// A status number of the page (0, 3 or 4), the listing at the front of the bytes, and the place of
+// its confinement identity. Length and place are 0 on refusal.
+pub struct Listing {
+    pub status: u32,
+    pub length: usize,
+    pub confined_at: usize,
+    pub bytes: [u8; 22940],
+}
+
+// The listing of a packed record.
+pub fn listing_of(s: &[u8]) -> Listing
+    ensures { λ r. ⌜ Listed (now (s .entry)) r ⌝ }
+    ensures { λ r. ⌜ (r .length ≤ 22940) × (r .«confined_at» ≤ r .length) ⌝ }
+{
+    let mut bytes = [0u8; 22940];
+    let n = unpack(s, &mut bytes);
+    let j = judge(&bytes[0..n]);
+    if j.status != 0 {
+        return Listing {
+            status: j.status,
+            length: 0,
+            confined_at: 0,
+            bytes,
+        };
+    }
+    Listing {
+        status: 0,
+        length: n,
+        confined_at: j.confined_at,
+        bytes,
+    }
+}
+
+// Copies all of `from` to the front of `out`.
+pub fn copy(from: &[u8], out: &mut [u8])
+    requires { ⌜ length (now from) ≤ length (now out) ⌝ }
+    ensures { λ r. ⌜ now (out .exit) ≡ sets (now (out .entry)) 0 (now (from .entry)) ⌝ }
+{
+    let mut i: usize = 0;
+    while i < from.len() {
+        out[i] = from[i];
+        i += 1;
+    }
+}
+
+// Writes the listing of a packed record to `out`, which is unchanged on refusal: 3, 4, or 11 where
+// the listing is longer than `out`.
+pub fn to_listing(s: &[u8], out: &mut [u8]) -> Converted
+    ensures { λ r. ⌜ r ≡ answered (fitted (length (now (out .entry))) (asListing (now (s .entry)))) ⌝ }
+    ensures { λ r. ⌜ now (out .exit) ≡ sets (now (out .entry)) 0 (fitted (length (now (out .entry))) (asListing (now (s .entry))) .bytes) ⌝ }
+{
+    let l = listing_of(s);
+    let n = l.length;
+    if out.len() < n {
+        return Converted {
+            status: 11,
+            length: 0,
+        };
+    }
+    let bytes = l.bytes;
+    copy(&bytes[0..n], out);
+    Converted {
+        status: l.status,
+        length: n,
+    }
+}

@@ -1,0 +1,194 @@
+// From a flat listing to a packed record. The listing was judged before, so every part stands where
+// it is read; what is written of it fits, since a record has at most 28,021 bytes.
+ghost use mathlib.Core.Path.{_≡_};
+ghost use mathlib.Core.Bool.{true};
+ghost use Prim.Native.Nat.{_+_, _*_, _≤_};
+ghost use lib.ListN.{length};
+ghost use lib.Seq.{sets};
+ghost use Rattle.base.specs.Bytes.{u48BeAt};
+ghost use Rattle.base.specs.Sevens.{packed};
+ghost use Rattle.lists.specs.Sid.{sidEnd, isSid};
+ghost use Rattle.tokens.specs.TokenRecord.{packedWords, packIdentity};
+ghost use Rattle.tokens.specs.Converters.{asRecord, fitted, answered};
+ghost use Rattle.tokens.specs.Packing.{Wrote, memberBytes, memberEnd, membersBytes};
+ghost use Rattle.tokens.specs.Packing.{membersEnd, MembersStand, crowdBytes, crowdEnd};
+ghost use Rattle.tokens.specs.Packing.{CrowdStands, doubleAt, recordBytes, Packable};
+use crate::Converted;
+use crate::flat::copy;
+use crate::judging::judge;
+
+// The place after what was read, and after what was written of it.
+pub struct Place {
+    pub from: usize,
+    pub to: usize,
+}
+
+// Writes a number in sevens at place `o`, shortest form, and answers the place after it.
+fn put(out: &mut [u8; 28021], o: usize, v: u64) -> usize
+    requires { ⌜ o + length (packed v) ≤ 28021 ⌝ }
+    ensures { λ r. ⌜ Wrote (now (out .entry)) (now (out .exit)) o r (packed v) ⌝ }
+{
+    let mut n = v;
+    let mut i = o;
+    while 128 <= n {
+        out[i] = (128 + n % 128) as u8;
+        n = n / 128;
+        i += 1;
+    }
+    out[i] = n as u8;
+    i + 1
+}
+
+// The six authority bytes of a SID as a number, highest first.
+fn authority(w: &[u8]) -> u64
+    requires { ⌜ 8 ≤ length (now w) ⌝ }
+    ensures { λ r. ⌜ r ≡ u48BeAt (now (w .entry)) 2 ⌝ }
+{
+    let a = base::wide(w[2]) as u64;
+    let b = base::wide(w[3]) as u64;
+    let c = base::wide(w[4]) as u64;
+    let d = base::wide(w[5]) as u64;
+    let e = base::wide(w[6]) as u64;
+    let f = base::wide(w[7]) as u64;
+    f + 256 * e + 65536 * d + 16777216 * c + 4294967296 * b + 1099511627776 * a
+}
+
+// The n words of a SID.
+fn pack_words(w: &[u8], n: usize, out: &mut [u8; 28021], o: usize) -> usize
+    requires { ⌜ (n ≤ 15) × (o + length (packedWords n (now w) 8) ≤ 28021) ⌝ }
+    ensures { λ r. ⌜ Wrote (now (out .entry)) (now (out .exit)) o r (packedWords n (now (w .entry)) 8) ⌝ }
+{
+    let mut from: usize = 8;
+    let mut to = o;
+    let mut more = n;
+    while 0 < more {
+        to = put(out, to, base::u32_at(w, from) as u64);
+        from += 4;
+        more -= 1;
+    }
+    to
+}
+
+// An identity: its count, 48-bit authority and words.
+fn pack_identity(w: &[u8], out: &mut [u8; 28021], o: usize) -> usize
+    requires { ⌜ (isSid (now w) ≡ true) × (o + length (packIdentity (now w)) ≤ 28021) ⌝ }
+    ensures { λ r. ⌜ Wrote (now (out .entry)) (now (out .exit)) o r (packIdentity (now (w .entry))) ⌝ }
+{
+    let n = base::wide(w[1]);
+    let a = put(out, o, n as u64);
+    let b = put(out, a, authority(w));
+    pack_words(w, n as usize, out, b)
+}
+
+// A member at a place: an identity and, where `attrs`, its attribute word.
+fn pack_member(s: &[u8], at: usize, attrs: bool, out: &mut [u8; 28021], o: usize) -> Place
+    requires { ⌜ (sidEnd (now s) at ≡ 0 → ⊥) × (o + length (memberBytes attrs (now s) at) ≤ 28021) ⌝ }
+    ensures { λ r. ⌜ Wrote (now (out .entry)) (now (out .exit)) o (r .to) (memberBytes attrs (now (s .entry)) at) ⌝ }
+    ensures { λ r. ⌜ r .from ≡ memberEnd attrs (now (s .entry)) at ⌝ }
+{
+    let e = lists::sid_end(s, at);
+    let w = &s[at..e];
+    let to = pack_identity(w, out, o);
+    if !attrs {
+        return Place { from: e, to };
+    }
+    let word = base::u32_at(s, e);
+    Place {
+        from: e + 4,
+        to: put(out, to, word as u64),
+    }
+}
+
+// As many members, one after the other.
+fn pack_members(
+    s: &[u8],
+    at: usize,
+    n: usize,
+    attrs: bool,
+    out: &mut [u8; 28021],
+    o: usize,
+) -> Place
+    requires { ⌜ MembersStand attrs n (now s) at × (o + length (membersBytes attrs n (now s) at) ≤ 28021) ⌝ }
+    ensures { λ r. ⌜ Wrote (now (out .entry)) (now (out .exit)) o (r .to) (membersBytes attrs n (now (s .entry)) at) ⌝ }
+    ensures { λ r. ⌜ r .from ≡ membersEnd attrs n (now (s .entry)) at ⌝ }
+{
+    let mut from = at;
+    let mut to = o;
+    let mut more = n;
+    while 0 < more {
+        let p = pack_member(s, from, attrs, out, to);
+        from = p.from;
+        to = p.to;
+        more -= 1;
+    }
+    Place { from, to }
+}
+
+// An identity, a count and as many members: the user with the groups, or the confinement identity
+// with the capabilities.
+fn pack_crowd(s: &[u8], at: usize, attrs: bool, out: &mut [u8; 28021], o: usize) -> Place
+    requires { ⌜ CrowdStands attrs (now s) at × (o + length (crowdBytes attrs (now s) at) ≤ 28021) ⌝ }
+    ensures { λ r. ⌜ Wrote (now (out .entry)) (now (out .exit)) o (r .to) (crowdBytes attrs (now (s .entry)) at) ⌝ }
+    ensures { λ r. ⌜ r .from ≡ crowdEnd attrs (now (s .entry)) at ⌝ }
+{
+    let e = lists::sid_end(s, at);
+    let w = &s[at..e];
+    let a = pack_identity(w, out, o);
+    let n = base::u32_at(s, e);
+    let b = put(out, a, n as u64);
+    pack_members(s, e + 4, n as usize, attrs, out, b)
+}
+
+// The eight bytes at place 4 as a number.
+fn privileges(s: &[u8]) -> u64
+    ensures { λ r. ⌜ r ≡ doubleAt (now (s .entry)) 4 ⌝ }
+{
+    let low = base::u32_at(s, 4);
+    let high = base::u32_at(s, 8);
+    low as u64 + 4294967296 * (high as u64)
+}
+
+// The whole record of a listing, from the front of the buffer, and its length.
+pub fn pack(s: &[u8], out: &mut [u8; 28021]) -> usize
+    requires { ⌜ Packable (now s) ⌝ }
+    ensures { λ r. ⌜ Wrote (now (out .entry)) (now (out .exit)) 0 r (recordBytes (now (s .entry))) ⌝ }
+{
+    let flags = base::u32_at(s, 0);
+    let a = put(out, 0, 1);
+    let b = put(out, a, flags as u64);
+    let c = put(out, b, privileges(s));
+    let p = pack_crowd(s, 12, true, out, c);
+    if flags & 1 == 0 {
+        return p.to;
+    }
+    let q = pack_crowd(s, p.from, false, out, p.to);
+    q.to
+}
+
+// Writes the packed record of a flat listing to `out`, which is unchanged on refusal: 3, 4, or 11
+// where the record is longer than `out`.
+pub fn to_record(s: &[u8], out: &mut [u8]) -> Converted
+    ensures { λ r. ⌜ r ≡ answered (fitted (length (now (out .entry))) (asRecord (now (s .entry)))) ⌝ }
+    ensures { λ r. ⌜ now (out .exit) ≡ sets (now (out .entry)) 0 (fitted (length (now (out .entry))) (asRecord (now (s .entry))) .bytes) ⌝ }
+{
+    let j = judge(s);
+    if j.status != 0 {
+        return Converted {
+            status: j.status,
+            length: 0,
+        };
+    }
+    let mut bytes = [0u8; 28021];
+    let n = pack(s, &mut bytes);
+    if out.len() < n {
+        return Converted {
+            status: 11,
+            length: 0,
+        };
+    }
+    copy(&bytes[0..n], out);
+    Converted {
+        status: 0,
+        length: n,
+    }
+}
