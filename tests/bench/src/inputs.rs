@@ -1,0 +1,86 @@
+//! What is timed. All identities have one word and differ in it alone, so that a comparison has
+//! to look at their last bytes, and 3,000 entries of 20 bytes fit a descriptor.
+
+use pirasteh_cases::make::{self, acl, allow, deny, policy, sid, Descriptor, Rule, Token};
+
+pub struct Input {
+    pub entries: usize,
+    pub identities: usize,
+    pub early: bool,
+    pub rules: usize,
+    pub masks: Vec<u32>,
+    pub token: Vec<u8>,
+    pub self_id: Vec<u8>,
+    pub descriptor: Vec<u8>,
+    pub policy: Vec<u8>,
+    pub entry_sids: Vec<Vec<u8>>,
+    pub identity_sids: Vec<Vec<u8>>,
+}
+
+/// Entries of each rule's effective and staged list.
+const RULE_ENTRIES: usize = 8;
+
+impl Input {
+    /// A list of strangers, or one whose first entry allows the user everything. `identities` are
+    /// the user and enabled groups.
+    pub fn new(entries: usize, identities: usize, early: bool, rules: usize) -> Input {
+        let people: Vec<Vec<u8>> =
+            (0..identities as u32).map(|i| sid(5, &[1_000_000 + i])).collect();
+        let mut token = Token::of(&people[0]);
+        for group in &people[1..] {
+            token = token.group(group, 0x7);
+        }
+        let mut named = Vec::new();
+        let mut list = |entries: usize| {
+            let mut all = Vec::new();
+            for i in 0..entries {
+                let who = if early && i == 0 {
+                    people[0].clone()
+                } else {
+                    sid(5, &[2_000_000 + i as u32])
+                };
+                all.push(if i % 4 == 3 {
+                    deny(0x1000_0000, &who)
+                } else {
+                    allow(0x1000_0000, &who)
+                });
+                named.push(who);
+            }
+            acl(&all)
+        };
+        let dacl = list(entries);
+        let rule_list: Vec<Rule> =
+            (0..rules).map(|_| Rule::of(&list(RULE_ENTRIES)).staged(&list(RULE_ENTRIES))).collect();
+        // Generic read, then every right of a file by itself and with its neighbour.
+        let mut masks = vec![0x8000_0000];
+        for bit in [0, 1, 2, 3, 4, 5, 6, 7, 8, 16, 17, 18, 19] {
+            masks.extend([1 << bit, 0x2_0000 | 1 << bit, 0x8_0001 | 1 << bit]);
+        }
+        assert_eq!(masks.len(), 40);
+        Input {
+            entries,
+            identities,
+            early,
+            rules,
+            masks,
+            token: token.record(),
+            self_id: Vec::new(),
+            descriptor: Descriptor::owned_by(&sid(5, &[18])).dacl(&dacl).bytes(),
+            policy: if rules == 0 { Vec::new() } else { policy(&rule_list) },
+            entry_sids: named,
+            identity_sids: people,
+        }
+    }
+}
+
+/// The largest token that keeps the rules, as record and listing.
+pub fn largest_token() -> (Vec<u8>, Vec<u8>) {
+    let long = sid(0xFFFF_FFFF_FFFF, &[u32::MAX; 15]);
+    let mut token = Token::of(&long).privileges(u64::MAX);
+    token.groups = vec![(long.clone(), u32::MAX); 256];
+    token.flags = 1;
+    let mut capabilities = vec![long.clone(); 64];
+    capabilities[63] = make::sid(15, &[2, 2]);
+    token.confinement = Some((long, capabilities));
+    (token.record(), token.listing())
+}

@@ -1,0 +1,167 @@
+//! Times the library against a plain Rust implementation, on the same inputs and in one run.
+//!
+//!     bench
+//!
+//! Each figure is the best of several runs, and library and plain take turns. Nothing passes or
+//! fails by its time; the only thing that fails is an answer that differs.
+
+mod inputs;
+mod plain;
+mod timing;
+
+use inputs::Input;
+use std::hint::black_box;
+use std::process::exit;
+use timing::{best, Timed};
+
+fn main() {
+    println!("Microseconds for all calls of a row, best of {} runs.", timing::RUNS);
+    println!("plain: a plain Rust implementation written for speed, tests/bench/src/plain.rs.");
+    println!("memcmp: every entry's SID against every identity by memcmp; nothing is parsed.");
+    println!("match: no entry names the asker, or the first one does and allows everything.");
+    println!();
+    println!(
+        "{:>7} {:>10} {:>6} {:>6} {:>5} {:>12} {:>12} {:>7} {:>12} {:>7}",
+        "entries",
+        "identities",
+        "match",
+        "rules",
+        "calls",
+        "library",
+        "plain",
+        "ratio",
+        "memcmp",
+        "ratio"
+    );
+    for entries in [8, 500, 3000] {
+        for identities in [1, 21, 257] {
+            for early in [false, true] {
+                for rules in [0, 32] {
+                    let input = Input::new(entries, identities, early, rules);
+                    same_answers(&input);
+                    for calls in [1, 40] {
+                        row(&input, calls);
+                    }
+                }
+            }
+        }
+    }
+    println!();
+    conversions();
+}
+
+fn library(input: &Input, mask: u32) -> Result<plain::Answer, u32> {
+    let q = pirasteh::Question {
+        kind: 1,
+        mask,
+        token: &input.token,
+        self_id: &input.self_id,
+        descriptor: &input.descriptor,
+        policy: &input.policy,
+    };
+    pirasteh::check(&q)
+        .map(|a| plain::Answer { granted: a.granted, allowed: a.allowed, staged: a.staged })
+        .map_err(pirasteh::Refusal::number)
+}
+
+fn by_plain(input: &Input, mask: u32) -> Result<plain::Answer, u32> {
+    plain::check(1, mask, &input.token, &input.self_id, &input.descriptor, &input.policy)
+}
+
+fn same_answers(input: &Input) {
+    for &mask in &input.masks {
+        let expected = pirasteh_reference::check(
+            1,
+            mask,
+            &input.token,
+            &input.self_id,
+            &input.descriptor,
+            &input.policy,
+        )
+        .map(|a| plain::Answer {
+            granted: a.granted,
+            allowed: a.allowed,
+            staged: a.staged,
+        });
+        let (library, plain) = (library(input, mask), by_plain(input, mask));
+        if expected.is_err() || library != expected || plain != expected {
+            println!("answers differ: library {library:?}, plain {plain:?}, expected {expected:?}");
+            exit(1);
+        }
+    }
+}
+
+/// The compiler may not see that a result is not used.
+fn keep<T>(result: T) {
+    black_box(result);
+}
+
+fn row(input: &Input, calls: usize) {
+    let masks = &input.masks[..calls];
+    let mut ask_library = || masks.iter().for_each(|&m| keep(library(black_box(input), m)));
+    let mut ask_plain = || masks.iter().for_each(|&m| keep(by_plain(black_box(input), m)));
+    // The SIDs one behind the other, as they are in a list.
+    let [entries, identities] = [input.entry_sids.concat(), input.identity_sids.concat()];
+    let [entries, identities] =
+        [&entries, &identities].map(|all| all.chunks(12).collect::<Vec<_>>());
+    let mut scan = || {
+        masks.iter().for_each(|_| keep(compare_only(black_box(&entries), black_box(&identities))))
+    };
+    let [library, plain, memcmp] = best([&mut ask_library, &mut ask_plain, &mut scan]);
+    print!(
+        "{:>7} {:>10} {:>6} {:>6} {:>5} {library:>12} {plain:>12} {:>7}",
+        input.entries,
+        input.identities,
+        if input.early { "first" } else { "none" },
+        input.rules,
+        calls,
+        library.ratio(plain),
+    );
+    if input.early {
+        // A scan that stops at once says nothing.
+        println!(" {:>12} {:>7}", "-", "-");
+    } else {
+        println!(" {memcmp:>12} {:>7}", library.ratio(memcmp));
+    }
+}
+
+/// Every entry's SID against every identity, by slice comparison, until one is equal.
+fn compare_only(entries: &[&[u8]], identities: &[&[u8]]) -> usize {
+    entries.iter().filter(|sid| identities.contains(sid)).count()
+}
+
+fn conversions() {
+    let (record, listing) = inputs::largest_token();
+    let mut out = vec![0; pirasteh::RECORD_MAX];
+    let mut other = out.clone();
+    let lengths = (pirasteh::list(&record, &mut out), plain::list(&record, &mut other));
+    let there = lengths == (Ok(listing.len()), Ok(listing.len())) && out == other;
+    let lengths = (pirasteh::pack(&listing, &mut out), plain::pack(&listing, &mut other));
+    if !there || lengths != (Ok(record.len()), Ok(record.len())) || out != other {
+        println!("conversions differ: {lengths:?}");
+        exit(1);
+    }
+    println!(
+        "{:38} {:>12} {:>12} {:>7} {:>12}",
+        "largest token", "library", "plain", "ratio", "memcpy"
+    );
+    let mut third = out.clone();
+    {
+        let [library, plain, copy] = best([
+            &mut || keep(pirasteh::list(black_box(&record), &mut out)),
+            &mut || keep(plain::list(black_box(&record), &mut other)),
+            &mut || third[..listing.len()].copy_from_slice(black_box(&listing)),
+        ]);
+        line(&format!("list, {} to {} bytes", record.len(), listing.len()), library, plain, copy);
+    }
+    let [library, plain, copy] = best([
+        &mut || keep(pirasteh::pack(black_box(&listing), &mut out)),
+        &mut || keep(plain::pack(black_box(&listing), &mut other)),
+        &mut || third[..record.len()].copy_from_slice(black_box(&record)),
+    ]);
+    line(&format!("pack, {} to {} bytes", listing.len(), record.len()), library, plain, copy);
+}
+
+fn line(what: &str, library: Timed, plain: Timed, copy: Timed) {
+    println!("{what:38} {library:>12} {plain:>12} {:>7} {copy:>12}", library.ratio(plain));
+}

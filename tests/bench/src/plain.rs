@@ -1,0 +1,282 @@
+//! The access check in plain Rust, written for speed: what the library's times are measured
+//! against. The same rules from the same bytes, refusals included.
+//!
+//! The token is decoded once, into a buffer on the stack. Each list is walked once: its shape is
+//! judged and its entries are taken in the same walk. An entry is matched only if it has a bit
+//! that is asked and not decided. Nothing is allocated.
+
+mod convert;
+mod token;
+mod walk;
+
+pub use convert::{list, pack};
+
+use token::{Stack, Token, MOST_CONFINED, MOST_NORMAL};
+use walk::{dacl, evaluated, sacl, Party, Setting};
+
+#[derive(Clone, Copy, Debug, PartialEq, Eq)]
+pub struct Answer {
+    pub granted: u32,
+    pub allowed: bool,
+    pub staged: bool,
+}
+
+const OWNER_RIGHTS: [u8; 12] = [1, 1, 0, 0, 0, 0, 0, 3, 4, 0, 0, 0];
+const PRINCIPAL_SELF: [u8; 12] = [1, 1, 0, 0, 0, 0, 0, 5, 10, 0, 0, 0];
+const ALL_RESTRICTED: [u8; 16] = [1, 2, 0, 0, 0, 0, 0, 15, 2, 0, 0, 0, 2, 0, 0, 0];
+
+/// read, write, execute, all
+const RIGHTS: [[u32; 4]; 2] =
+    [[0x12_0089, 0x12_0116, 0x12_00A0, 0x1F_01FF], [0x2_0019, 0x2_0006, 0x2_0019, 0xF_003F]];
+const MAXIMUM: u32 = 0x0200_0000;
+const SYSTEM_SECURITY: u32 = 0x0100_0000;
+
+#[inline]
+fn map(rights: &[u32; 4], mask: u32) -> u32 {
+    let mut out = mask & 0x0FFF_FFFF;
+    if mask & 0xF000_0000 != 0 {
+        for (i, meaning) in rights.iter().enumerate() {
+            if mask & (0x8000_0000 >> i) != 0 {
+                out |= meaning;
+            }
+        }
+    }
+    out
+}
+
+#[inline]
+fn u16_at(bytes: &[u8], at: usize) -> usize {
+    usize::from(u16::from_le_bytes([bytes[at], bytes[at + 1]]))
+}
+
+#[inline]
+fn u32_at(bytes: &[u8], at: usize) -> u32 {
+    u32::from_le_bytes([bytes[at], bytes[at + 1], bytes[at + 2], bytes[at + 3]])
+}
+
+/// The length of the SID at the front, if there is one.
+#[inline]
+fn sid_length(bytes: &[u8]) -> Option<usize> {
+    if bytes.len() < 8 || bytes[0] != 1 || bytes[1] > 15 {
+        return None;
+    }
+    let length = 8 + 4 * usize::from(bytes[1]);
+    (length <= bytes.len()).then_some(length)
+}
+
+#[inline]
+fn is_virtual(sid: &[u8]) -> bool {
+    sid == OWNER_RIGHTS || sid == PRINCIPAL_SELF
+}
+
+pub fn check(
+    kind: u32,
+    mask: u32,
+    token: &[u8],
+    self_id: &[u8],
+    descriptor: &[u8],
+    policy: &[u8],
+) -> Result<Answer, u32> {
+    if kind != 1 && kind != 2 {
+        return Err(1);
+    }
+    let rights = &RIGHTS[kind as usize - 1];
+    let all = rights[3];
+    if mask & !(0xF000_0000 | SYSTEM_SECURITY | MAXIMUM | all) != 0 {
+        return Err(2);
+    }
+    let mut decoded = Token::new();
+    decoded.read(token).ok_or(3u32)?;
+    if !decoded.keeps_the_rules() {
+        return Err(4);
+    }
+    if !self_id.is_empty() && sid_length(self_id) != Some(self_id.len()) {
+        return Err(5);
+    }
+
+    let explicit = map(rights, mask) & !MAXIMUM;
+    let asked = if mask & MAXIMUM != 0 { explicit | all } else { explicit };
+
+    let d = descriptor;
+    if d.len() < 20 || d.len() > 65_535 || d[0] != 1 || d[3] & 0x80 == 0 {
+        return Err(6);
+    }
+    let part = |at: u32| {
+        if at < 20 {
+            return None;
+        }
+        d.get(at as usize..)
+    };
+    let owner_at = u32_at(d, 4);
+    let group_at = u32_at(d, 8);
+    let owner = if owner_at == 0 {
+        None
+    } else {
+        let from = part(owner_at).ok_or(6u32)?;
+        Some(&from[..sid_length(from).ok_or(6u32)?])
+    };
+    if group_at != 0 {
+        part(group_at).and_then(sid_length).ok_or(6u32)?;
+    }
+    if d[2] & 0x10 != 0 {
+        part(u32_at(d, 12)).and_then(sacl).ok_or(6u32)?;
+    }
+
+    // The list's shape is judged before the missing owner is told, so without one there is an
+    // empty owner, which matches nothing.
+    let owner_sid = owner.unwrap_or(&[]);
+    let mut for_allow = Stack::<&[u8], MOST_NORMAL>::new();
+    let mut for_deny = Stack::<&[u8], MOST_NORMAL>::new();
+    for (sid, allow, deny) in decoded.normal() {
+        if allow {
+            for_allow.push(sid);
+        }
+        if deny {
+            for_deny.push(sid);
+        }
+    }
+    let mut confined = Stack::<&[u8], MOST_CONFINED>::new();
+    decoded.confined().for_each(|(sid, ..)| confined.push(sid));
+    let confined = confined.items();
+    let normal = Party::new(for_allow.items(), for_deny.items(), owner_sid, self_id);
+    let owner_rights = if normal.owner[0] { 0x6_0000 } else { 0 };
+    let mut privileges = 0;
+    if decoded.privileges & 0x100 != 0 {
+        privileges |= SYSTEM_SECURITY;
+    }
+    if decoded.privileges & 0x200 != 0 {
+        privileges |= 0x8_0000;
+    }
+    let confined = (decoded.flags == 1).then(|| Party::new(confined, confined, owner_sid, self_id));
+    let setting = Setting { rights, asked, normal, confined, owner_rights, privileges };
+
+    let mut granted = if d[2] & 0x04 != 0 {
+        let (_, walked) =
+            part(u32_at(d, 16)).and_then(|list| dacl(&setting, true, list)).ok_or(6u32)?;
+        if owner.is_none() {
+            return Err(7);
+        }
+        if walked.other_type {
+            return Err(8);
+        }
+        let confined = if setting.confined.is_some() { walked.confined } else { u32::MAX };
+        evaluated(&setting, &walked) & confined
+    } else {
+        if owner.is_none() {
+            return Err(7);
+        }
+        let confined = if setting.confined.is_some() { all } else { u32::MAX };
+        (all | setting.privileges) & confined
+    } & asked;
+
+    let staged = rules(&setting, policy, &mut granted)?;
+    let allowed = explicit & !granted == 0 && (mask & MAXIMUM == 0 || granted != 0);
+    Ok(Answer { granted, allowed, staged })
+}
+
+/// Judges a policy and narrows what is granted by its rules. Gives the staging flag.
+fn rules(setting: &Setting, policy: &[u8], granted: &mut u32) -> Result<bool, u32> {
+    if policy.is_empty() {
+        return Ok(false);
+    }
+    if policy.len() < 5 || policy.len() > 262_144 || policy[0] != 1 {
+        return Err(9);
+    }
+    let count = u32_at(policy, 1);
+    if count > 256 {
+        return Err(9);
+    }
+    let mut unread = false;
+    let mut staged = false;
+    let mut rest = &policy[5..];
+    for _ in 0..count {
+        let mut section = || {
+            if rest.len() < 4 {
+                return Err(9u32);
+            }
+            let length = u32_at(rest, 0) as usize;
+            if length > rest.len() - 4 {
+                return Err(9);
+            }
+            let (front, after) = rest[4..].split_at(length);
+            rest = after;
+            Ok(front)
+        };
+        let list = |bytes: &[u8]| {
+            dacl(setting, false, bytes).filter(|(size, _)| *size == bytes.len()).ok_or(9u32)
+        };
+        let audit = |bytes: &[u8]| {
+            if bytes.is_empty() || sacl(bytes) == Some(bytes.len()) {
+                Ok(())
+            } else {
+                Err(9u32)
+            }
+        };
+        let applies_to = section()?;
+        if applies_to.len() > 65_536 {
+            return Err(9);
+        }
+        unread |= !applies_to.is_empty();
+        let (_, effective) = list(section()?)?;
+        unread |= effective.other_type;
+        audit(section()?)?;
+        let effective = evaluated(setting, &effective);
+        *granted &= effective;
+        let proposal = section()?;
+        if !proposal.is_empty() {
+            let (_, proposed) = list(proposal)?;
+            unread |= proposed.other_type;
+            staged |= (evaluated(setting, &proposed) ^ effective) & setting.asked != 0;
+        }
+        audit(section()?)?;
+    }
+    if !rest.is_empty() {
+        return Err(9);
+    }
+    if unread {
+        return Err(10);
+    }
+    Ok(staged)
+}
+
+#[cfg(test)]
+mod tests {
+    use super::token::{LISTING_MAX, RECORD_MAX};
+    use super::*;
+    use pirasteh_cases::random::{case, Case};
+    use pirasteh_reference as reference;
+
+    #[test]
+    fn agrees_with_the_reference() {
+        for number in 0..200_000 {
+            match case(7, number) {
+                Case::Check(q) => {
+                    let said =
+                        check(q.kind, q.mask, &q.token, &q.self_id, &q.descriptor, &q.policy)
+                            .map(|a| (a.granted, a.allowed, a.staged));
+                    let expected = reference::check(
+                        q.kind,
+                        q.mask,
+                        &q.token,
+                        &q.self_id,
+                        &q.descriptor,
+                        &q.policy,
+                    )
+                    .map(|a| (a.granted, a.allowed, a.staged));
+                    assert_eq!(said, expected, "case {number} of seed 7");
+                }
+                Case::File(_) => {}
+                Case::List(record, _) => {
+                    let mut out = vec![0; LISTING_MAX];
+                    let said = list(&record, &mut out).map(|n| out[..n].to_vec());
+                    assert_eq!(said, reference::list(&record), "case {number} of seed 7");
+                }
+                Case::Pack(listing, _) => {
+                    let mut out = vec![0; RECORD_MAX];
+                    let said = pack(&listing, &mut out).map(|n| out[..n].to_vec());
+                    assert_eq!(said, reference::pack(&listing), "case {number} of seed 7");
+                }
+            }
+        }
+    }
+}

@@ -1,0 +1,162 @@
+//! One walk over a list: its shape is judged and its entries are taken.
+
+use super::{is_virtual, map, u16_at, u32_at, OWNER_RIGHTS, PRINCIPAL_SELF};
+
+/// Whether an identity is one of these. Lengths are compared first, then the last words, since
+/// identities of one house differ there, and only then all bytes, which calls memcmp.
+#[inline]
+fn among(identities: &[&[u8]], sid: &[u8]) -> bool {
+    let last = sid.last_chunk::<4>();
+    identities.iter().any(|identity| {
+        identity.len() == sid.len() && identity.last_chunk::<4>() == last && *identity == sid
+    })
+}
+
+/// One set of identities that a list is walked with, and how owner and self match in it.
+pub struct Party<'a> {
+    allow: &'a [&'a [u8]],
+    deny: &'a [&'a [u8]],
+    pub owner: [bool; 2],
+    own_self: [bool; 2],
+}
+
+impl<'a> Party<'a> {
+    pub fn new(
+        allow: &'a [&'a [u8]],
+        deny: &'a [&'a [u8]],
+        owner: &[u8],
+        self_id: &[u8],
+    ) -> Party<'a> {
+        let both = |sid: &[u8]| {
+            if sid.is_empty() || is_virtual(sid) {
+                [false; 2]
+            } else {
+                [among(allow, sid), among(deny, sid)]
+            }
+        };
+        Party { allow, deny, owner: both(owner), own_self: both(self_id) }
+    }
+
+    #[inline]
+    fn matches(&self, sid: &[u8], deny: bool) -> bool {
+        if sid.len() == 12 {
+            if sid == OWNER_RIGHTS {
+                return self.owner[usize::from(deny)];
+            }
+            if sid == PRINCIPAL_SELF {
+                return self.own_self[usize::from(deny)];
+            }
+        }
+        among(if deny { self.deny } else { self.allow }, sid)
+    }
+}
+
+#[derive(Clone, Copy, Default)]
+struct Tally {
+    decided: u32,
+    allowed: u32,
+}
+
+/// What a walk over a list found.
+#[derive(Default)]
+pub struct Walked {
+    pub other_type: bool,
+    names_owner: bool,
+    normal: u32,
+    pub confined: u32,
+}
+
+/// What stays the same through one question.
+pub struct Setting<'a> {
+    pub rights: &'a [u32; 4],
+    pub asked: u32,
+    pub normal: Party<'a>,
+    pub confined: Option<Party<'a>>,
+    pub owner_rights: u32,
+    pub privileges: u32,
+}
+
+#[inline]
+fn acl_header(bytes: &[u8]) -> Option<(usize, usize)> {
+    if bytes.len() < 8 || (bytes[0] != 2 && bytes[0] != 4) {
+        return None;
+    }
+    let size = u16_at(bytes, 2);
+    (size >= 8 && size <= bytes.len()).then_some((size, u16_at(bytes, 4)))
+}
+
+/// The size of the entry at `at`, if its header is well shaped and it is inside the list.
+#[inline]
+fn entry_size(list: &[u8], at: usize) -> Option<usize> {
+    if list.len() - at < 4 {
+        return None;
+    }
+    let size = u16_at(list, at + 2);
+    (size >= 4 && size % 4 == 0 && size <= list.len() - at).then_some(size)
+}
+
+/// Judges a SACL's shape, and gives its size.
+pub fn sacl(bytes: &[u8]) -> Option<usize> {
+    let (size, count) = acl_header(bytes)?;
+    let list = &bytes[..size];
+    let mut at = 8;
+    for _ in 0..count {
+        at += entry_size(list, at)?;
+    }
+    Some(size)
+}
+
+/// Judges a DACL's shape and takes its entries. Gives its size too.
+pub fn dacl(setting: &Setting, confine: bool, bytes: &[u8]) -> Option<(usize, Walked)> {
+    let (size, count) = acl_header(bytes)?;
+    let list = &bytes[..size];
+    let mut walked = Walked::default();
+    let mut normal = Tally::default();
+    let mut confined = Tally::default();
+    let party = if confine { setting.confined.as_ref() } else { None };
+    let mut at = 8;
+    for _ in 0..count {
+        let size = entry_size(list, at)?;
+        let entry = &list[at..at + size];
+        at += size;
+        if entry[0] > 1 {
+            walked.other_type = true;
+            continue;
+        }
+        if size < 16 || entry[8] != 1 || entry[9] > 15 || size != 16 + 4 * usize::from(entry[9]) {
+            return None;
+        }
+        let sid = &entry[8..];
+        if sid.len() == 12 && sid == OWNER_RIGHTS {
+            walked.names_owner = true;
+        }
+        if entry[1] & 0x08 != 0 {
+            continue;
+        }
+        let mask = map(setting.rights, u32_at(entry, 4)) & setting.asked;
+        let deny = entry[0] == 1;
+        let new = mask & !normal.decided;
+        if new != 0 && setting.normal.matches(sid, deny) {
+            normal.decided |= new;
+            normal.allowed |= if deny { 0 } else { new };
+        }
+        if let Some(party) = party {
+            let new = mask & !confined.decided;
+            if new != 0 && party.matches(sid, deny) {
+                confined.decided |= new;
+                confined.allowed |= if deny { 0 } else { new };
+            }
+        }
+    }
+    // 0x01000000 may be asked, and no entry decides it.
+    walked.normal = normal.allowed & setting.rights[3];
+    walked.confined = confined.allowed & setting.rights[3];
+    Some((size, walked))
+}
+
+/// Normal evaluation, from what a walk allowed.
+#[inline]
+pub fn evaluated(setting: &Setting, walked: &Walked) -> u32 {
+    let owner = if walked.names_owner { 0 } else { setting.owner_rights };
+    walked.normal | owner | setting.privileges
+}

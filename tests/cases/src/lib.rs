@@ -1,0 +1,12 @@
+//! Makes the inputs of the tests: by hand (`make`) and at random from a seed (`random`).
+//!
+//! Nothing here reads what it makes, or knows what the answer should be.
+
+mod damage;
+pub mod hex;
+pub mod make;
+mod people;
+pub mod random;
+mod rng;
+
+pub use rng::Rng;

@@ -1,0 +1,163 @@
+//! Checks library and reference against the vector files of a directory.
+//!
+//! A file holds cases with a blank line between them: `#` lines that give the reason, then
+//! `ask` and `line`, or two of `record`, `listing` and `refused`.
+
+use pirasteh_cases::hex;
+use pirasteh_reference as reference;
+use std::collections::BTreeMap;
+use std::fs;
+use std::path::Path;
+
+/// Checks every `.txt` file of the directory. True if there is a case and none fails.
+pub fn run(dir: &str) -> bool {
+    let mut files = match fs::read_dir(dir) {
+        Ok(entries) => entries.flatten().map(|entry| entry.path()).collect::<Vec<_>>(),
+        Err(error) => {
+            println!("vectors: {dir}: {error}");
+            return false;
+        }
+    };
+    files.retain(|path| path.extension().is_some_and(|end| end == "txt"));
+    files.sort();
+    let (mut cases, mut failures) = (0, 0);
+    for path in &files {
+        let (here, failed) = run_file(path);
+        println!("  {:16} {here:4} cases", path.file_name().unwrap_or_default().to_string_lossy());
+        cases += here;
+        failures += failed;
+    }
+    println!("vectors: {cases} cases, {failures} failures");
+    cases > 0 && failures == 0
+}
+
+fn run_file(path: &Path) -> (usize, usize) {
+    let text = match fs::read_to_string(path) {
+        Ok(text) => text,
+        Err(error) => {
+            println!("{}: {error}", path.display());
+            return (0, 1);
+        }
+    };
+    let (mut cases, mut failures) = (0, 0);
+    let mut first_line = 1;
+    for block in text.split("\n\n") {
+        let reason: Vec<&str> =
+            block.lines().filter_map(|line| line.strip_prefix('#')).map(str::trim).collect();
+        if block.lines().any(|line| !line.is_empty() && !line.starts_with('#')) {
+            cases += 1;
+            if let Err(what) = fields(block).and_then(|fields| run_case(&fields)) {
+                failures += 1;
+                println!("FAILED {}:{first_line}: {}", path.display(), reason.join(" "));
+                println!("  {what}");
+            }
+        }
+        first_line += block.matches('\n').count() + 2;
+    }
+    (cases, failures)
+}
+
+type Fields<'a> = BTreeMap<&'a str, &'a str>;
+
+fn fields(block: &str) -> Result<Fields<'_>, String> {
+    let mut fields = BTreeMap::new();
+    for line in block.lines().filter(|line| !line.is_empty() && !line.starts_with('#')) {
+        let (name, value) =
+            line.split_once('=').ok_or_else(|| format!("no `=` in the line `{line}`"))?;
+        if fields.insert(name.trim(), value.trim()).is_some() {
+            return Err(format!("`{}` stands twice", name.trim()));
+        }
+    }
+    Ok(fields)
+}
+
+fn bytes(text: &str) -> Result<Vec<u8>, String> {
+    hex::decode(text).ok_or_else(|| "not hexadecimal".into())
+}
+
+fn run_case(fields: &Fields) -> Result<(), String> {
+    let names: Vec<&str> = fields.keys().copied().collect();
+    match names[..] {
+        ["ask", "line"] => ask(&bytes(fields["ask"])?, fields["line"]),
+        ["listing", "record"] => convert(&bytes(fields["record"])?, &bytes(fields["listing"])?),
+        ["record", "refused"] => {
+            let record = bytes(fields["record"])?;
+            refuse(fields["refused"], |out| pirasteh::list(&record, out), reference::list(&record))
+        }
+        ["listing", "refused"] => {
+            let listing = bytes(fields["listing"])?;
+            refuse(
+                fields["refused"],
+                |out| pirasteh::pack(&listing, out),
+                reference::pack(&listing),
+            )
+        }
+        _ => Err(format!("a case of {names:?} is not known")),
+    }
+}
+
+fn ask(file: &[u8], line: &str) -> Result<(), String> {
+    let said = pirasteh::question(file)
+        .map(|a| reference::Answer { granted: a.granted, allowed: a.allowed, staged: a.staged })
+        .map_err(pirasteh::Refusal::number);
+    expect("library", &reference::line(&said), line)?;
+    expect("reference", &reference::line(&reference::question(file)), line)
+}
+
+fn expect(who: &str, said: &str, line: &str) -> Result<(), String> {
+    if said == line {
+        Ok(())
+    } else {
+        Err(format!("{who} says `{said}`, expected `{line}`"))
+    }
+}
+
+/// Both ways, and with a buffer that is one byte too short.
+fn convert(record: &[u8], listing: &[u8]) -> Result<(), String> {
+    if reference::list(record).as_deref() != Ok(listing) {
+        return Err("reference lists the record otherwise".into());
+    }
+    if reference::pack(listing).as_deref() != Ok(record) {
+        return Err("reference packs the listing otherwise".into());
+    }
+    converts("lists the record", |out| pirasteh::list(record, out), listing)?;
+    converts("packs the listing", |out| pirasteh::pack(listing, out), record)
+}
+
+type Conversion<'a> = &'a dyn Fn(&mut [u8]) -> Result<usize, pirasteh::Refusal>;
+
+fn converts(
+    what: &str,
+    library: impl Fn(&mut [u8]) -> Result<usize, pirasteh::Refusal>,
+    expected: &[u8],
+) -> Result<(), String> {
+    let library: Conversion = &library;
+    for room in [expected.len(), pirasteh::RECORD_MAX] {
+        let mut out = vec![0x5A; room];
+        let length = library(&mut out).map_err(|refusal| format!("library: {what}: {refusal}"))?;
+        if out.get(..length) != Some(expected) || out[length..].iter().any(|&b| b != 0x5A) {
+            return Err(format!("library {what} otherwise"));
+        }
+    }
+    let mut out = vec![0x5A; expected.len() - 1];
+    match library(&mut out) {
+        Err(pirasteh::Refusal::ShortBuffer) if out.iter().all(|&b| b == 0x5A) => Ok(()),
+        other => Err(format!("library {what} into a short buffer: {other:?}")),
+    }
+}
+
+fn refuse(
+    number: &str,
+    library: impl Fn(&mut [u8]) -> Result<usize, pirasteh::Refusal>,
+    reference: Result<Vec<u8>, u32>,
+) -> Result<(), String> {
+    let number: u32 = number.parse().map_err(|_| format!("`{number}` is not a number"))?;
+    if reference != Err(number) {
+        return Err(format!("reference says {reference:?}, expected refusal {number}"));
+    }
+    let mut out = vec![0x5A; pirasteh::RECORD_MAX];
+    match library(&mut out) {
+        Err(refusal) if refusal.number() == number && out.iter().all(|&b| b == 0x5A) => Ok(()),
+        other => Err(format!("library says {other:?}, expected refusal {number}")),
+    }
+}

@@ -1,0 +1,154 @@
+//! From well-shaped parts to an answer: matching, the pass over a list, normal evaluation,
+//! confinement, rules.
+
+use crate::acl::{Acl, DENY};
+use crate::masks::{self, Rights, MAXIMUM};
+use crate::policy::Rule;
+use crate::sid;
+use crate::token::{Token, SECURITY_PRIVILEGE, TAKE_OWNERSHIP_PRIVILEGE};
+use crate::Answer;
+
+/// What stays the same through one question.
+pub struct Setting<'a> {
+    pub rights: Rights,
+    pub token: &'a Token,
+    pub owner: &'a [u8],
+    pub self_id: &'a [u8],
+}
+
+/// One identity of the asker, and for which entries it counts.
+struct Listed<'a> {
+    sid: &'a [u8],
+    for_allow: bool,
+    for_deny: bool,
+}
+
+/// Whether an identity matches, for allow and deny apart.
+#[derive(Clone, Copy)]
+struct Match {
+    allow: bool,
+    deny: bool,
+}
+
+const ENABLED: u32 = 0x4;
+const DENY_ONLY: u32 = 0x10;
+
+/// The user, and the groups by their attributes.
+fn normal_identities(token: &Token) -> Vec<Listed<'_>> {
+    let mut all = vec![Listed { sid: &token.user, for_allow: true, for_deny: true }];
+    for (group, attributes) in &token.groups {
+        let enabled = attributes & ENABLED != 0;
+        let deny_only = attributes & DENY_ONLY != 0;
+        all.push(Listed {
+            sid: group,
+            for_allow: enabled && !deny_only,
+            for_deny: enabled || deny_only,
+        });
+    }
+    all
+}
+
+/// An identity that stands among those listed. A group listed twice matches if either does.
+fn matches_directly(listed: &[Listed], sid: &[u8]) -> Match {
+    let mut found = Match { allow: false, deny: false };
+    for one in listed.iter().filter(|one| one.sid == sid) {
+        found.allow |= one.for_allow;
+        found.deny |= one.for_deny;
+    }
+    found
+}
+
+/// As above, with S-1-3-4 for the owner and S-1-5-10 for the self identity. Neither is followed
+/// to an identity that is itself one of the two, nor to an empty self.
+fn matches(setting: &Setting, listed: &[Listed], sid: &[u8]) -> Match {
+    let meant = match sid {
+        s if s == sid::OWNER_RIGHTS => setting.owner,
+        s if s == sid::PRINCIPAL_SELF => setting.self_id,
+        s => return matches_directly(listed, s),
+    };
+    if meant.is_empty() || sid::is_virtual(meant) {
+        return Match { allow: false, deny: false };
+    }
+    matches_directly(listed, meant)
+}
+
+/// One pass over a list: each bit is decided by the first matching entry that has it.
+fn pass(setting: &Setting, listed: &[Listed], list: &Acl) -> u32 {
+    let mut decided = 0;
+    let mut allowed = 0;
+    for entry in &list.entries {
+        if entry.is_inherit_only() {
+            continue;
+        }
+        let found = matches(setting, listed, entry.sid());
+        let mask = setting.rights.of_entry(entry.mask());
+        if entry.kind == DENY {
+            if found.deny {
+                decided |= mask;
+            }
+        } else if found.allow {
+            allowed |= mask & !decided;
+            decided |= mask;
+        }
+    }
+    allowed
+}
+
+/// Normal evaluation, for the descriptor's list and for each rule's.
+fn normal(setting: &Setting, list: Option<&Acl>) -> u32 {
+    let listed = normal_identities(setting.token);
+    let mut result = match list {
+        None => setting.rights.all,
+        Some(list) => pass(setting, &listed, list),
+    };
+    let spoken_for =
+        list.is_some_and(|list| list.entries.iter().any(|entry| entry.sid() == sid::OWNER_RIGHTS));
+    // The owner's own bytes have to be listed. No accepted token lists a virtual identity, so an
+    // owner that is one matches nothing.
+    if !spoken_for && matches_directly(&listed, setting.owner).allow {
+        result |= masks::READ_CONTROL | masks::WRITE_DAC;
+    }
+    if setting.token.privileges & TAKE_OWNERSHIP_PRIVILEGE != 0 {
+        result |= masks::WRITE_OWNER;
+    }
+    if setting.token.privileges & SECURITY_PRIVILEGE != 0 {
+        result |= masks::SYSTEM_SECURITY;
+    }
+    result
+}
+
+/// What confinement leaves. All bits if the token is not confined or is exempt.
+fn confinement(setting: &Setting, list: Option<&Acl>) -> u32 {
+    let Some(confinement) = setting.token.in_force() else {
+        return u32::MAX;
+    };
+    let Some(list) = list else {
+        return setting.rights.all;
+    };
+    let mut listed = vec![Listed { sid: &confinement.identity, for_allow: true, for_deny: true }];
+    for capability in &confinement.capabilities {
+        listed.push(Listed { sid: capability, for_allow: true, for_deny: true });
+    }
+    pass(setting, &listed, list)
+}
+
+/// The answer to an accepted question.
+pub fn answer(setting: &Setting, mask: u32, dacl: Option<&Acl>, rules: &[Rule]) -> Answer {
+    let asked = setting.rights.asked(mask);
+    let explicit = setting.rights.explicit(mask);
+
+    let mut granted = asked & normal(setting, dacl) & confinement(setting, dacl);
+    let mut staged = false;
+    for rule in rules {
+        let effective = normal(setting, Some(&rule.effective));
+        granted &= effective;
+        if let Some(list) = &rule.staged {
+            let proposed = normal(setting, Some(list));
+            staged |= (effective ^ proposed) & asked != 0;
+        }
+    }
+
+    let wanted_something = mask & MAXIMUM != 0;
+    let allowed = explicit & !granted == 0 && !(wanted_something && granted == 0);
+    Answer { granted, allowed, staged }
+}

@@ -1,0 +1,136 @@
+//! The access check once more, in plain Rust.
+//!
+//! Written from document 01 alone and not from the proved library, so that the two can be
+//! compared. It is meant to be read: it copies and allocates freely, and every step stands
+//! where the document has it. For speed look elsewhere.
+//!
+//! Refusals are the document's numbers as they are, in `Err`.
+
+mod acl;
+mod descriptor;
+mod evaluate;
+mod file;
+mod listing;
+mod masks;
+mod policy;
+mod record;
+mod sevens;
+mod sid;
+mod token;
+
+/// The refusals, with the document's numbers.
+pub mod refused {
+    pub const KIND: u32 = 1;
+    pub const MASK: u32 = 2;
+    pub const TOKEN_SHAPE: u32 = 3;
+    pub const TOKEN_RULE: u32 = 4;
+    pub const SELF_ID: u32 = 5;
+    pub const DESCRIPTOR_SHAPE: u32 = 6;
+    pub const NO_OWNER: u32 = 7;
+    pub const DACL_TYPE: u32 = 8;
+    pub const POLICY_SHAPE: u32 = 9;
+    pub const POLICY_TYPE: u32 = 10;
+    pub const SHORT_BUFFER: u32 = 11;
+    pub const FILE_SHAPE: u32 = 12;
+}
+
+/// What an accepted question is answered with.
+#[derive(Clone, Copy, Debug, PartialEq, Eq)]
+pub struct Answer {
+    pub granted: u32,
+    pub allowed: bool,
+    pub staged: bool,
+}
+
+/// One question, from its parts. The refusals come in the order of their numbers.
+pub fn check(
+    kind: u32,
+    mask: u32,
+    token: &[u8],
+    self_id: &[u8],
+    descriptor: &[u8],
+    policy: &[u8],
+) -> Result<Answer, u32> {
+    let rights = masks::rights_of(kind).ok_or(refused::KIND)?;
+    if !rights.may_be_asked(mask) {
+        return Err(refused::MASK);
+    }
+
+    let token = record::read(token).ok_or(refused::TOKEN_SHAPE)?;
+    if !token.keeps_the_rules() {
+        return Err(refused::TOKEN_RULE);
+    }
+
+    if !self_id.is_empty() && !sid::is_exactly_one(self_id) {
+        return Err(refused::SELF_ID);
+    }
+
+    let descriptor = descriptor::read(descriptor).ok_or(refused::DESCRIPTOR_SHAPE)?;
+    let owner = descriptor.owner.ok_or(refused::NO_OWNER)?;
+    if let Some(dacl) = &descriptor.dacl {
+        if dacl.has_other_types() {
+            return Err(refused::DACL_TYPE);
+        }
+    }
+
+    let rules = policy::read(policy).ok_or(refused::POLICY_SHAPE)?;
+    if rules.iter().any(policy::Rule::has_unread_parts) {
+        return Err(refused::POLICY_TYPE);
+    }
+
+    Ok(evaluate::answer(
+        &evaluate::Setting { rights, token: &token, owner, self_id },
+        mask,
+        descriptor.dacl.as_ref(),
+        &rules,
+    ))
+}
+
+/// One question, from a question file.
+pub fn question(bytes: &[u8]) -> Result<Answer, u32> {
+    let q = file::read(bytes).ok_or(refused::FILE_SHAPE)?;
+    check(q.kind, q.mask, q.token, q.self_id, q.descriptor, q.policy)
+}
+
+/// Packed token record to flat listing.
+pub fn list(bytes: &[u8]) -> Result<Vec<u8>, u32> {
+    let token = record::read(bytes).ok_or(refused::TOKEN_SHAPE)?;
+    if !token.keeps_the_rules() {
+        return Err(refused::TOKEN_RULE);
+    }
+    Ok(listing::write(&token))
+}
+
+/// Flat listing to packed token record.
+pub fn pack(bytes: &[u8]) -> Result<Vec<u8>, u32> {
+    let token = listing::read(bytes).ok_or(refused::TOKEN_SHAPE)?;
+    if !token.keeps_the_rules() {
+        return Err(refused::TOKEN_RULE);
+    }
+    Ok(record::write(&token))
+}
+
+/// What a converter does with a lent buffer: it is written only if the whole result fits,
+/// and only as far as the result goes.
+pub fn lend(result: Result<Vec<u8>, u32>, out: &mut [u8]) -> Result<usize, u32> {
+    let bytes = result?;
+    if bytes.len() > out.len() {
+        return Err(refused::SHORT_BUFFER);
+    }
+    out[..bytes.len()].copy_from_slice(&bytes);
+    Ok(bytes.len())
+}
+
+/// The line that the program prints for a question, without its newline.
+pub fn line(result: &Result<Answer, u32>) -> String {
+    let word = |yes| if yes { "yes" } else { "no" };
+    match result {
+        Ok(a) => format!(
+            "granted 0x{:08x} allowed {} staged {}",
+            a.granted,
+            word(a.allowed),
+            word(a.staged)
+        ),
+        Err(number) => format!("refused {number}"),
+    }
+}

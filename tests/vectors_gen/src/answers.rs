@@ -1,0 +1,30 @@
+//! Where two readers came apart, or where another system answers otherwise. The object is a
+//! file owned by W, and U asks, unless said.
+
+mod confinement;
+mod identities;
+mod rights;
+mod walks;
+
+use crate::case::*;
+use pirasteh_cases::make::{self, acl, Descriptor, Question, Rule};
+
+const SECURITY: u64 = 1 << 8;
+const TAKE_OWNERSHIP: u64 = 1 << 9;
+
+/// U asks an object with this owner and these entries.
+fn owned(owner: &[u8], mask: u32, entries: &[Vec<u8>]) -> Question {
+    on(tu(), mask, Descriptor::owned_by(owner).dacl(&acl(entries)))
+}
+
+fn one_rule(entries: &[Vec<u8>]) -> Vec<u8> {
+    make::policy(&[Rule::of(&acl(entries))])
+}
+
+pub fn cases() -> Vec<Case> {
+    let mut all = identities::cases();
+    all.extend(rights::cases());
+    all.extend(walks::cases());
+    all.extend(confinement::cases());
+    all
+}

@@ -1,0 +1,140 @@
+//! Writes the vector files.
+//!
+//!     vectors DIR
+//!
+//! Every case is made by hand, and so is what it expects: no implementation is asked here. The
+//! tests of this package hold the reference to the same cases, and the files to what is written.
+
+mod answers;
+mod cards;
+mod case;
+mod descriptors;
+mod large;
+mod policies;
+mod refusals;
+mod tokens;
+
+use case::Case;
+use std::path::Path;
+use std::process::exit;
+use std::{env, fs};
+
+/// A file's name, what stands at its head, and its cases.
+fn files() -> Vec<(&'static str, &'static str, Vec<Case>)> {
+    vec![
+        ("cards.txt", "The starred cards of document 01.", cards::cases()),
+        (
+            "refusals.txt",
+            "Each refusal but 11, from both sides, and which of two is given.",
+            refusals::cases(),
+        ),
+        (
+            "descriptors.txt",
+            "Descriptors at each limit of their shape. TU asks for generic read.",
+            descriptors::cases(),
+        ),
+        (
+            "policies.txt",
+            "Policies at each limit of their shape, and what rules do.",
+            policies::cases(),
+        ),
+        (
+            "answers.txt",
+            "Where two readers came apart, or where another system answers otherwise.",
+            answers::cases(),
+        ),
+        (
+            "tokens.txt",
+            "Conversions. A record beside a listing: each turns into the other, byte for byte.",
+            tokens::cases(),
+        ),
+        ("large.txt", "A few cases that are as large as they get.", large::cases()),
+    ]
+}
+
+fn text(head: &str, cases: &[Case]) -> String {
+    let mut out =
+        format!("# {head}\n# Made by hand. U is S-1-5-0-7, W is S-1-5-7, G is S-1-5-32-544.\n");
+    for case in cases {
+        out.push('\n');
+        out.push_str(&case.text());
+    }
+    out
+}
+
+fn main() {
+    let Some(dir) = env::args().nth(1) else {
+        eprintln!("vectors DIR");
+        exit(2);
+    };
+    for (name, head, cases) in files() {
+        let path = Path::new(&dir).join(name);
+        if let Err(error) = fs::write(&path, text(head, &cases)) {
+            eprintln!("{}: {error}", path.display());
+            exit(1);
+        }
+        println!("{name}: {} cases", cases.len());
+    }
+}
+
+#[cfg(test)]
+mod tests {
+    use super::*;
+    use case::Body;
+    use pirasteh_reference as reference;
+
+    #[test]
+    fn the_reference_agrees() {
+        let mut wrong = Vec::new();
+        for (name, _, cases) in files() {
+            for case in &cases {
+                let said = match &case.body {
+                    Body::Ask { file, line } => {
+                        let said = reference::line(&reference::question(file));
+                        (said != *line).then_some(said)
+                    }
+                    Body::Convert { record, listing } => {
+                        let there = reference::list(record);
+                        let back = reference::pack(listing);
+                        let fine = there.as_ref() == Ok(listing) && back.as_ref() == Ok(record);
+                        (!fine).then(|| format!("{there:02x?} and {back:02x?}"))
+                    }
+                    Body::RefusedRecord { record, number } => {
+                        let said = reference::list(record);
+                        (said != Err(*number)).then(|| format!("{said:02x?}"))
+                    }
+                    Body::RefusedListing { listing, number } => {
+                        let said = reference::pack(listing);
+                        (said != Err(*number)).then(|| format!("{said:02x?}"))
+                    }
+                };
+                if let Some(said) = said {
+                    wrong.push(format!("{name}: {}: {said}", case.reason));
+                }
+            }
+        }
+        assert!(wrong.is_empty(), "\n{}", wrong.join("\n"));
+    }
+
+    #[test]
+    fn no_two_cases_are_the_same() {
+        for (name, _, cases) in files() {
+            for (i, case) in cases.iter().enumerate() {
+                for other in &cases[..i] {
+                    assert_ne!(case.reason, other.reason, "{name}");
+                    let same = case.text().lines().nth(1) == other.text().lines().nth(1);
+                    assert!(!same, "{name}: {} / {}", case.reason, other.reason);
+                }
+            }
+        }
+    }
+
+    #[test]
+    fn the_files_are_these() {
+        let dir = Path::new(env!("CARGO_MANIFEST_DIR")).join("../vectors");
+        for (name, head, cases) in files() {
+            let written = fs::read_to_string(dir.join(name)).unwrap_or_default();
+            assert!(written == text(head, &cases), "{name} is not what `vectors` writes");
+        }
+    }
+}

@@ -1,0 +1,207 @@
+//! Policies at each limit of their shape, and what rules do. The question is c1's unless said.
+
+use crate::case::*;
+use pirasteh_cases::hex;
+use pirasteh_cases::make::{self, acl, allow, bare_entry, deny, policy, Descriptor, Rule};
+
+const READ: u32 = 0x8000_0000;
+const GRANTED: u32 = 0x0012_0089;
+
+fn given(reason: &str, policy: Vec<u8>, line: String) -> Case {
+    ask(reason, c1().policy(policy), line)
+}
+
+fn bad(reason: &str, policy: Vec<u8>) -> Case {
+    given(reason, policy, refused(9))
+}
+
+fn good(reason: &str, policy: Vec<u8>) -> Case {
+    given(reason, policy, yes(GRANTED))
+}
+
+pub fn cases() -> Vec<Case> {
+    let mut all = shapes();
+    all.extend(sections());
+    all.extend(rules());
+    all
+}
+
+fn reading() -> Rule {
+    Rule::of(&acl(&[allow(READ, &u())]))
+}
+
+fn shapes() -> Vec<Case> {
+    let one = policy(&[reading()]);
+    vec![
+        bad("two bytes", hex::bytes("01 00")),
+        bad("four bytes", hex::bytes("01 00 00 00")),
+        bad("version 0", hex::bytes("00 00 00 00 00")),
+        bad("no rules, and a byte too many", hex::bytes("01 00 00 00 00 00")),
+        bad("a count of 1 without a rule", hex::bytes("01 01 00 00 00")),
+        bad("a count of 0xFFFFFFFF", hex::bytes("01 FF FF FF FF")),
+        bad("a count of 0x01000000, with one rule", patched(one.clone(), 1, &[0, 0, 0, 1])),
+        good("one rule", one.clone()),
+        bad("one rule, and a byte too many", followed_by(one.clone(), &[0])),
+        bad("one rule without its last byte", cut(one.clone(), one.len() - 1)),
+        bad("two rules where one is said", patched(policy(&[reading(), reading()]), 1, &[1])),
+        bad("one rule where two are said", patched(one, 1, &[2])),
+    ]
+}
+
+fn sections() -> Vec<Case> {
+    // With one rule, its applies_to length stands at 5, its effective DACL length at 9, the DACL
+    // at 13, and its last three lengths behind that.
+    let list = acl(&[allow(READ, &u())]);
+    let rule = |effective: &[u8]| policy(&[Rule::of(effective)]);
+    let longer = followed_by(list.clone(), &[0; 4]);
+    let with_sacl = |sacl: &[u8]| policy(&[Rule { effective_sacl: sacl.to_vec(), ..reading() }]);
+    let with_staged_sacl =
+        |sacl: &[u8]| policy(&[Rule { staged_sacl: sacl.to_vec(), ..reading() }]);
+    let staged = |staged: &[u8]| policy(&[reading().staged(staged)]);
+    let header = bare_entry(0, 0, &[]);
+    vec![
+        bad(
+            "an applies_to that leads past the end",
+            patched(rule(&list), 5, &[0xFF, 0xFF, 0xFF, 0xFF]),
+        ),
+        bad("an effective DACL that leads past the end", patched(rule(&list), 9, &[0xFF])),
+        bad("an effective DACL without bytes", policy(&[Rule::default()])),
+        bad("an effective DACL of 7 bytes", rule(&cut(list.clone(), 7))),
+        given(
+            "an effective DACL of 8 bytes without entries allows nothing",
+            rule(&acl(&[])),
+            no(0),
+        ),
+        bad("a section 4 bytes longer than its list", rule(&longer)),
+        bad(
+            "a section 4 bytes shorter than its list",
+            rule(&cut(patched(longer.clone(), 2, &[36]), 32)),
+        ),
+        good("spare bytes inside the list", rule(&patched(longer, 2, &[36]))),
+        bad("effective DACL revision 3", rule(&patched(list.clone(), 0, &[3]))),
+        good("effective DACL revision 4", rule(&patched(list.clone(), 0, &[4]))),
+        bad("an entry of size 20 where 24 fits", rule(&patched(list.clone(), 10, &[20]))),
+        bad("an allow entry that is a header alone", rule(&acl(&[header.clone()]))),
+        bad("count 2 in a list of one entry", rule(&patched(list.clone(), 4, &[2]))),
+        bad("a staged DACL of 7 bytes", staged(&cut(list.clone(), 7))),
+        bad("a staged DACL of revision 1", staged(&patched(list.clone(), 0, &[1]))),
+        bad("a staged DACL longer than its list", staged(&followed_by(list.clone(), &[0]))),
+        bad("a staged DACL with a misshapen entry", staged(&acl(&[header.clone()]))),
+        good("an effective SACL", with_sacl(&list)),
+        good("an effective SACL whose bodies are not judged", with_sacl(&acl(&[header.clone()]))),
+        bad("an effective SACL of 7 bytes", with_sacl(&cut(list.clone(), 7))),
+        bad("an effective SACL of revision 0", with_sacl(&patched(list.clone(), 0, &[0]))),
+        bad("an effective SACL longer than its list", with_sacl(&followed_by(list.clone(), &[0]))),
+        bad(
+            "an effective SACL with an entry of size 2",
+            with_sacl(&patched(list.clone(), 10, &[2])),
+        ),
+        good("a staged SACL whose bodies are not judged", with_staged_sacl(&acl(&[header]))),
+        bad("a staged SACL of one byte", with_staged_sacl(&[2])),
+        bad("a staged SACL with an entry of size 0", with_staged_sacl(&patched(list, 10, &[0]))),
+    ]
+}
+
+fn rules() -> Vec<Case> {
+    let l = |entries: &[Vec<u8>]| acl(entries);
+    let asks =
+        |mask: u32, rules: &[Rule]| on_list(tu(), mask, &[allow(7, &u())]).policy(policy(rules));
+    vec![
+        ask("a rule narrows", asks(7, &[Rule::of(&l(&[allow(3, &u())]))]), no(3)),
+        ask(
+            "every rule narrows, not the first alone",
+            asks(
+                7,
+                &[
+                    Rule::of(&l(&[allow(7, &u())])),
+                    Rule::of(&l(&[allow(6, &u())])),
+                    Rule::of(&l(&[allow(5, &u())])),
+                ],
+            ),
+            no(4),
+        ),
+        ask(
+            "a rule never gives more than the DACL",
+            asks(0x17, &[Rule::of(&l(&[allow(0x1F, &u())]))]),
+            no(7),
+        ),
+        ask(
+            "a rule that denies what it did not allow before",
+            asks(7, &[Rule::of(&l(&[allow(4, &u()), deny(6, &u()), allow(7, &u())]))]),
+            no(5),
+        ),
+        ask(
+            "a staged list may allow more and changes nothing but the flag",
+            asks(7, &[Rule::of(&l(&[allow(3, &u())])).staged(&l(&[allow(7, &u())]))]),
+            no_staged(3),
+        ),
+        ask(
+            "a staged list may allow less and changes nothing but the flag",
+            asks(7, &[Rule::of(&l(&[allow(7, &u())])).staged(&l(&[]))]),
+            yes_staged(7),
+        ),
+        ask(
+            "a staged list that decides alike raises no flag, though it reads otherwise",
+            asks(
+                7,
+                &[Rule::of(&l(&[allow(7, &u())])).staged(&l(&[
+                    allow(3, &u()),
+                    allow(4, &u()),
+                    deny(7, &g()),
+                ]))],
+            ),
+            yes(7),
+        ),
+        ask(
+            "the flag of the second rule",
+            asks(
+                7,
+                &[
+                    Rule::of(&l(&[allow(7, &u())])),
+                    Rule::of(&l(&[allow(7, &u())])).staged(&l(&[allow(1, &u())])),
+                ],
+            ),
+            yes_staged(7),
+        ),
+        ask(
+            "two rules that differ from each other raise no flag",
+            asks(
+                7,
+                &[
+                    Rule::of(&l(&[allow(7, &u())])).staged(&l(&[allow(7, &u())])),
+                    Rule::of(&l(&[allow(3, &u())])).staged(&l(&[allow(3, &u())])),
+                ],
+            ),
+            no(3),
+        ),
+        ask(
+            "staged SACLs raise no flag",
+            asks(
+                7,
+                &[Rule {
+                    staged_sacl: l(&[make::entry(2, 0xC0, 7, &u())]),
+                    ..Rule::of(&l(&[allow(7, &u())]))
+                }],
+            ),
+            yes(7),
+        ),
+        ask(
+            "a rule on a null DACL",
+            on(tu(), 3, Descriptor::owned_by(&w()))
+                .policy(policy(&[Rule::of(&l(&[allow(1, &u())]))])),
+            no(1),
+        ),
+        ask(
+            "a rule is judged without confinement: it need not name the package",
+            on_list(confined(), 3, &[allow(3, &u()), allow(3, &package())])
+                .policy(policy(&[Rule::of(&l(&[allow(3, &u())]))])),
+            yes(3),
+        ),
+        ask(
+            "a rule is judged by the user, not by the package",
+            on_list(confined(), 3, &[allow(3, &u()), allow(3, &package())])
+                .policy(policy(&[Rule::of(&l(&[allow(3, &package())]))])),
+            no(0),
+        ),
+    ]
+}
