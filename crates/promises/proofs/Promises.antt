@@ -28,6 +28,10 @@ use Rattle.access.proofs.check as check
 use Rattle.access.proofs.question as question
 use Rattle.tokens.proofs.to_listing as to-listing
 use Rattle.tokens.proofs.to_record as to-record
+use Rattle.pirasteh.proofs.pirasteh_check as c-check
+use Rattle.pirasteh.proofs.pirasteh_question as c-question
+use Rattle.pirasteh.proofs.pirasteh_list as c-list
+use Rattle.pirasteh.proofs.pirasteh_pack as c-pack
 
 -- ---- Demand 1. "Whatever bytes arrive, the check ends and touches nothing outside them."
 
@@ -36,6 +40,11 @@ use Rattle.tokens.proofs.to_record as to-record
 pub functions-met : {M : Type 1} → check.Statement.statement M × question.Statement.statement M × to-listing.Statement.statement M
     × to-record.Statement.statement M
 functions-met = (check.Met.met, question.Met.met, to-listing.Met.met, to-record.Met.met)
+
+-- The same of the four functions that C and Rust call. Contracts: pirasteh/src.
+pub exports-met : {M : Type 1} → c-check.Statement.statement M × c-question.Statement.statement M × c-list.Statement.statement M
+    × c-pack.Statement.statement M
+exports-met = (c-check.Met.met, c-question.Met.met, c-list.Met.met, c-pack.Met.met)
 
 -- "Bad input is refused by the number that document 01 gives."
 pub bad-input : (q : Question) → checked q .status ≡ lowest (conditions q)
