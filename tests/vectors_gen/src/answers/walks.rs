@@ -30,32 +30,32 @@ fn flags() -> Vec<Case> {
         ),
         ask("other flags do not matter", on_list(tu(), 1, &[entry(0, 0xF7, 1, &u())]), yes(1)),
         ask(
-            "reading 18: the flag rises for a bit that the DACL withholds",
+            "staging: the flag rises for a bit that the DACL withholds",
             on_list(tu(), 3, &[]).policy(rule(1, 3)),
             no_staged(0),
         ),
         ask(
-            "reading 18: the flag rises for a bit that confinement withholds",
+            "staging: the flag rises for a bit that confinement withholds",
             on_list(confined(), 3, &[allow(3, &u())]).policy(rule(1, 3)),
             no_staged(0),
         ),
         ask(
-            "reading 18: with the maximum all bits of the kind are compared",
+            "staging: with the maximum all bits of the kind are compared",
             on_list(tu(), 0x0200_0000, &[allow(1, &u())]).policy(rule(1, 3)),
             yes_staged(1),
         ),
         ask(
-            "reading 18: bits that are not asked are not compared",
+            "staging: bits that are not asked are not compared",
             on_list(tu(), 1, &[allow(1, &u())]).policy(rule(1, 0x1F_01FF)),
             yes(1),
         ),
         ask(
-            "reading 18: asking nothing raises no flag",
+            "staging: asking nothing raises no flag",
             on_list(tu(), 0, &[]).policy(rule(1, 3)),
             yes(0),
         ),
         ask(
-            "reading 18: privileges are in both results, so their bits do not differ",
+            "staging: privileges are in both results, so their bits do not differ",
             on_list(tu().privileges(TAKE_OWNERSHIP), 0x8_0000, &[]).policy(rule(0, 0x8_0000)),
             yes(0x8_0000),
         ),
@@ -65,19 +65,19 @@ fn flags() -> Vec<Case> {
 fn maximum_and_nothing() -> Vec<Case> {
     let list = [allow(1, &u())];
     vec![
-        ask("reading 20: asking nothing on an empty list is allowed", on_list(tu(), 0, &[]), yes(0)),
-        ask("reading 20: the maximum with nothing granted is not allowed (Samba)", on_list(tu(), 0x0200_0000, &[]), no(0)),
-        ask("reading 20: the maximum with one bit granted is allowed", on_list(tu(), 0x0200_0000, &list), yes(1)),
-        ask("reading 20: the maximum with a named bit missing is not", on_list(tu(), 0x0200_0002, &list), no(1)),
-        ask("reading 20: the maximum with the named bit granted is", on_list(tu(), 0x0200_0001, &list), yes(1)),
-        ask("reading 20: the maximum and 0x01000000 without SeSecurity", on_list(tu(), 0x0300_0000, &list), no(1)),
-        ask("reading 21: entries of strangers change nothing",
+        ask("what is asked: asking nothing on an empty list is allowed", on_list(tu(), 0, &[]), yes(0)),
+        ask("what is asked: the maximum with nothing granted is not allowed (Samba)", on_list(tu(), 0x0200_0000, &[]), no(0)),
+        ask("what is asked: the maximum with one bit granted is allowed", on_list(tu(), 0x0200_0000, &list), yes(1)),
+        ask("what is asked: the maximum with a named bit missing is not", on_list(tu(), 0x0200_0002, &list), no(1)),
+        ask("what is asked: the maximum with the named bit granted is", on_list(tu(), 0x0200_0001, &list), yes(1)),
+        ask("what is asked: the maximum and 0x01000000 without SeSecurity", on_list(tu(), 0x0300_0000, &list), no(1)),
+        ask("strangers: entries of strangers change nothing",
             on_list(tu(), 3, &[deny(3, &g()), allow(1, &u()), allow(7, &g()), deny(2, &w())]), no(1)),
-        ask("reading 21: an entry that names the owner directly is a stranger's if the owner does not ask",
+        ask("strangers: an entry that names the owner directly is a stranger's if the owner does not ask",
             owned(&w(), 3, &[allow(2, &w()), allow(1, &u())]), no(1)),
-        ask("reading 21: an entry that names the self identity directly is a stranger's if it does not ask",
+        ask("strangers: an entry that names the self identity directly is a stranger's if it does not ask",
             owned(&w(), 3, &[deny(1, &g()), allow(1, &u())]).self_id(&g()), no(1)),
-        ask("reading 21: capabilities of an exempt token match nothing",
+        ask("strangers: capabilities of an exempt token match nothing",
             on_list(confined().exempt(), 3, &[deny(1, &package()), allow(3, &all_restricted()), allow(1, &u())]), no(1)),
     ]
 }
@@ -85,22 +85,22 @@ fn maximum_and_nothing() -> Vec<Case> {
 fn others() -> Vec<Case> {
     vec![
         ask(
-            "reading 22: under the maximum a later deny takes nothing back (Wine)",
+            "other systems: under the maximum a later deny takes nothing back (Wine)",
             on_list(tu(), 0x0200_0000, &[allow(3, &u()), deny(2, &u())]),
             yes(3),
         ),
         ask(
-            "reading 22: a deny of a bit that is granted already does not stop the walk (Wine)",
+            "other systems: a deny of a bit that is granted already does not stop the walk (Wine)",
             on_list(tu(), 3, &[allow(1, &u()), deny(1, &u()), allow(2, &u())]),
             yes(3),
         ),
         ask(
-            "reading 22: DACL bit clear, and an offset to a list that denies (Samba)",
+            "other systems: DACL bit clear, and an offset to a list that denies (Samba)",
             c1().descriptor(patched(patched(d(), 2, &[0]), 40, &[1])).mask(2),
             yes(2),
         ),
         ask(
-            "reading 22: a deny of a type that is not known is not skipped (Samba)",
+            "other systems: a deny of a type that is not known is not skipped (Samba)",
             on_list(tu(), 1, &[entry(10, 0, 1, &u()), allow(1, &u())]),
             refused(8),
         ),
