@@ -9,11 +9,11 @@ use native.Mathlib.Nat.{mod-eq-of-lt, lt-of-le-of-lt}
 use native.Mathlib.Omega.{arith}
 use lib.Bits.{and-mod, and-le-r}
 use Rattle.base.specs.Bits.{and}
-use Rattle.tokens.specs.Token.{Token, confined, exempt}
-use Rattle.tokens.specs.Shaped.{Shaped}
-use Rattle.tokens.specs.FlatListing.{listingOf}
-use Rattle.tokens.specs.Crowd.{Member, crowdAt, crowdOf, confinedOf, confinedPlace}
-use Rattle.tokens.proofs.CrowdLaws.{flags-listed, privileges-listed, crowd-listed, confined-listed}
+use Rattle.records.specs.Token.{Token, confined, exempt}
+use Rattle.records.specs.Shaped.{Shaped}
+use Rattle.records.specs.FlatListing.{listingOf}
+use Rattle.records.specs.Crowd.{Member, crowdAt, crowdOf, confinedOf, confinedPlace}
+use Rattle.records.proofs.CrowdLaws.{flags-listed, privileges-listed, crowd-listed, confined-listed}
 use Rattle.passes.specs.Matching.{hitsOf}
 use Rattle.passes.specs.NormalEvaluation.{Dacl, privilegesGive, listGives, normalOf}
 use Rattle.passes.specs.Confinement.{everything, confinementOf}

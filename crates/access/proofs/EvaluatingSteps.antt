@@ -8,7 +8,7 @@ use mathlib.Core.Bool.{Bool, true, false}
 use lib.Bits.{bitAnd}
 use Rattle.lists.specs.Acl.{entriesOf}
 use Rattle.lists.specs.declared.acl.Rights.{Rights}
-use Rattle.tokens.specs.Crowd.{Member, crowdAt}
+use Rattle.records.specs.Crowd.{Member, crowdAt}
 use Rattle.passes.specs.Matching.{hitsOf}
 use Rattle.passes.specs.NormalEvaluation.{listGives, normalOf}
 use Rattle.passes.specs.Confinement.{confines, everything}
@@ -18,7 +18,7 @@ use Rattle.passes.specs.declared.matching.Hits.{Hits}
 use Rattle.passes.proofs.MarksLaws.{walked-kept}
 use Rattle.passes.proofs.EvaluationLaws.{listed-is, normal-is}
 use Rattle.policy.specs.Rules.{Lists, ruled, ruledBy}
-use Rattle.policy.specs.Found.{keptRules}
+use Rattle.policy.specs.ByLengths.{keptRules}
 use Rattle.policy.specs.declared.rules.Ruled.{Ruled}
 use Rattle.policy.proofs.RulesLaws.{result-kept, ruled-kept}
 use Rattle.access.specs.Evaluating.{crowdIn, flagsIn, privilegesIn, daclAs, confinementIn, foundIn}

@@ -7,27 +7,14 @@ use mathlib.Core.Bool.{true, false}
 use native.Mathlib.Omega.{arith}
 use lib.ListN.{length}
 use borrow.Author.Tests.{lt-ltb, le-ltb, le-leb, lt-leb, eq-eqb, ne-eqb}
-use Rattle.base.specs.Bytes.{Read, part}
+use Rattle.base.specs.Bytes.{part}
 use Rattle.base.specs.Bytes.Read.{none, some}
-use Rattle.base.specs.Sevens.{number, numOf}
-use Rattle.base.specs.declared.sevens.Num.{Num}
+use Rattle.base.specs.Sevens.{number}
 use Rattle.access.specs.Status.{Question, refused, checked}
 use Rattle.access.specs.QuestionFile.{blobAt, questionOf, fileAnswer}
-use Rattle.access.specs.Blobs.{noBlob, bytesIn, handed, nowhere, questionIn, posed, Lies, Inside}
+use Rattle.access.specs.Blobs.{noBlob, bytesIn, handed, nowhere, questionIn, posed, BlobLies, PlacesLie}
 use Rattle.access.specs.declared.file.Blob.{Blob}
 use Rattle.access.specs.declared.file.Places.{Places}
-
--- ---- a number as the code answers it
-
-pub num-none : (x : Read ℕ) (r : Num) → r ≡ numOf x → r .ok ≡ false → x ≡ none
-unfolding numOf
-num-none none r e n = refl
-num-none (some v a) r e n = let z : _≡_ {A = ℕ} 0 1 = cc in absurd (omega arith)
-
-pub num-some : (x : Read ℕ) (r : Num) → r ≡ numOf x → r .ok ≡ true → x ≡ some (r .value) (r .next)
-unfolding numOf
-num-some none r e n = let z : _≡_ {A = ℕ} 0 1 = cc in absurd (omega arith)
-num-some (some v a) r e n = rw e
 
 -- ---- a part
 
@@ -99,9 +86,9 @@ module _ (s : List ℕ) where
 
 -- ---- what `parse` promises on refusal, and the answer to a file
 
-pub not-posed : (s : List ℕ) (r : Places) → r ≡ nowhere → questionOf s ≡ none → (questionOf s ≡ posed s r) × Inside s r
+pub not-posed : (s : List ℕ) (r : Places) → r ≡ nowhere → questionOf s ≡ none → (questionOf s ≡ posed s r) × PlacesLie s r
 not-posed s r e n =
-    let none-lies : Lies s noBlob = (omega arith, omega arith) in
+    let none-lies : BlobLies s noBlob = (omega arith, omega arith) in
     rw (e, n) (refl, record { token = none-lies; me = none-lies; descriptor = none-lies; policy = none-lies })
 
 module _ (s : List ℕ) where

@@ -9,10 +9,10 @@ use lib.Dec.{eqb}
 use borrow.Author.Tests.{eq-eqb, ne-eqb}
 use Rattle.base.specs.Bytes.{Read}
 use Rattle.base.specs.Bytes.Read.{none, some}
-use Rattle.tokens.specs.Token.{Token}
-use Rattle.tokens.specs.TokenRecord.{readRecord}
-use Rattle.tokens.specs.TokenRules.{keeps}
-use Rattle.passes.specs.KindsAndMasks.{knownKind, legal}
+use Rattle.records.specs.Token.{Token}
+use Rattle.records.specs.TokenRecord.{readRecord}
+use Rattle.records.specs.TokenRules.{keeps}
+use Rattle.masks.specs.KindsAndMasks.{knownKind, legal}
 use Rattle.access.specs.Granted.{answerOf}
 use Rattle.access.specs.Status.{Question, refused, selfFits, descriptorNumber, policyNumber, findings, afterToken, withToken, checked}
 use Rattle.access.specs.Findings.{stopped, accepted, foundAfter, foundWith, findingsOf, readOff}

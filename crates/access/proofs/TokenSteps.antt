@@ -11,25 +11,25 @@ use lib.Dec.{T}
 use lib.Pow.{areBytes}
 use Rattle.base.specs.Bytes.{Read}
 use Rattle.base.specs.Bytes.Read.{none, some}
-use Rattle.tokens.specs.Token.{Token}
-use Rattle.tokens.specs.Shaped.{Shaped}
-use Rattle.tokens.specs.TokenRecord.{readRecord}
-use Rattle.tokens.specs.TokenRules.{keeps}
-use Rattle.tokens.specs.FlatListing.{listingOf}
-use Rattle.tokens.specs.Crowd.{confinedPlace}
-use Rattle.tokens.specs.Converters.{converted, result, refusal, asListing}
+use Rattle.records.specs.Token.{Token}
+use Rattle.records.specs.Shaped.{Shaped}
+use Rattle.records.specs.TokenRecord.{readRecord}
+use Rattle.records.specs.TokenRules.{keeps}
+use Rattle.records.specs.FlatListing.{listingOf}
+use Rattle.records.specs.Crowd.{confinedPlace}
+use Rattle.records.specs.Converters.{converted, result, refusal, asListing}
 use Rattle.tokens.specs.Judging.{judgedOf, Listed}
 use Rattle.tokens.specs.declared.flat.Listing.{Listing}
 use Rattle.tokens.specs.declared.judging.Judged.{Judged}
-use Rattle.tokens.proofs.RoundTrip.{record-form}
+use Rattle.records.proofs.RoundTrip.{record-form}
 use Rattle.lists.specs.Descriptor.{partsOf, ownerOf, daclOf}
 use Rattle.policy.specs.Policy as policy
 use Rattle.policy.specs.Policy.{standingOf}
 use Rattle.policy.specs.declared.shape.Standing.{Standing}
 use Rattle.policy.specs.declared.shape.Standing.the-variants.{Sound, Misshapen, Unread}
 use Rattle.policy.specs.Rules.{rulesOf}
-use Rattle.policy.specs.Found as policed
-use Rattle.policy.proofs.PolicyLaws.{sound-found}
+use Rattle.policy.specs.ByLengths.{rulesByLengths}
+use Rattle.policy.proofs.PolicyLaws.{sound-by-lengths}
 use Rattle.access.specs.Status.{policyNumber, daclIn, findings}
 use Rattle.access.specs.Evaluating.{daclAs, foundIn}
 use Rattle.access.specs.declared.answer.Found.{Found}
@@ -98,10 +98,10 @@ pub found-whole :
     list ≡ daclOf d →
     present ≡ not (partsOf d .null) →
     policyNumber p ≡ 0 →
-    f ≡ foundIn kind l (r .«confined_at») owner self (daclAs present list) (policed.foundOf p) →
+    f ≡ foundIn kind l (r .«confined_at») owner self (daclAs present list) (rulesByLengths p) →
     f ≡ findings kind (t .token) self d p
 found-whole kind s r t bytes l owner list self d p present f listing named there null sound e =
     let o : Shaped (t .token) = record-form s (t .token) (t .end) bytes (t .read) .1 in
     e
-    ∙ rw (listing ∙ t .bytes, t .place, named, there, null, sound-found p (number-sound (standingOf p) sound))
+    ∙ rw (listing ∙ t .bytes, t .place, named, there, null, sound-by-lengths p (number-sound (standingOf p) sound))
     (found-listed kind (t .token) (ownerOf d) self (daclIn d) (rulesOf p) o)

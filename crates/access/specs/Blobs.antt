@@ -48,11 +48,11 @@ abbrev pub posed : List ℕ → Places → Read Question
 posed s p = cond (p .ok) (some (questionIn s p) (length s)) none
 
 -- every part lies in the file
-abbrev pub Lies : List ℕ → Blob → Type 0
-Lies s b = (b .from ≤ b .to) × (b .to ≤ length s)
+abbrev pub BlobLies : List ℕ → Blob → Type 0
+BlobLies s b = (b .from ≤ b .to) × (b .to ≤ length s)
 
-pub record Inside (s : List ℕ) (p : Places) : Type 0 where
-  pub token : Lies s (p .token)
-  pub me : Lies s (p .me)
-  pub descriptor : Lies s (p .descriptor)
-  pub policy : Lies s (p .policy)
+pub record PlacesLie (s : List ℕ) (p : Places) : Type 0 where
+  pub token : BlobLies s (p .token)
+  pub me : BlobLies s (p .me)
+  pub descriptor : BlobLies s (p .descriptor)
+  pub policy : BlobLies s (p .policy)

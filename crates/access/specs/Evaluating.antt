@@ -6,7 +6,7 @@ use mathlib.Core.Bool.{Bool, true, false, cond}
 use Rattle.base.specs.Bytes.{u32At}
 use Rattle.base.specs.Bits.{and}
 use Rattle.lists.specs.Acl.{entriesOf}
-use Rattle.tokens.specs.Crowd.{Member, crowdAt, userPlace}
+use Rattle.records.specs.Crowd.{Member, crowdAt, userPlace}
 use Rattle.passes.specs.Matching.{hitsOf}
 use Rattle.passes.specs.NormalEvaluation.{Dacl, listGives, normalOf}
 use Rattle.passes.specs.Confinement.{confines, everything}

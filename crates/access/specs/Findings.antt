@@ -6,9 +6,9 @@ use mathlib.Core.Bool.{cond}
 use lib.Dec.{eqb}
 use Rattle.base.specs.Bytes.{Read}
 use Rattle.base.specs.Bytes.Read.{none, some}
-use Rattle.tokens.specs.Token.{Token}
-use Rattle.tokens.specs.TokenRecord.{readRecord}
-use Rattle.tokens.specs.TokenRules.{keeps}
+use Rattle.records.specs.Token.{Token}
+use Rattle.records.specs.TokenRecord.{readRecord}
+use Rattle.records.specs.TokenRules.{keeps}
 use Rattle.access.specs.Granted.{answerOf}
 use Rattle.access.specs.Status.{selfFits, descriptorNumber, policyNumber, findings, refused}
 use Rattle.access.specs.declared.answer.Found.{Found}

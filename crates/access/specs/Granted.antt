@@ -2,12 +2,12 @@
 -- mask: the masks left and the bits on which staging differs are found for the kind, and the mask enters at the end.
 use Prim.Native.Nat.{ℕ}
 use mathlib.Core.List.{List}
-use mathlib.Core.Bool.{Bool, true, false, cond, not, _&&_, _||_}
+use mathlib.Core.Bool.{Bool, not, _&&_, _||_}
 use lib.Dec.{eqb}
-use Rattle.base.specs.Bits.{and, or, has, covers}
-use Rattle.tokens.specs.Token.{Token}
-use Rattle.tokens.specs.Crowd.{crowdOf}
-use Rattle.passes.specs.KindsAndMasks.{explicit, asked, maximum}
+use Rattle.base.specs.Bits.{and, has, covers}
+use Rattle.records.specs.Token.{Token}
+use Rattle.records.specs.Crowd.{crowdOf}
+use Rattle.masks.specs.KindsAndMasks.{explicit, asked, maximum}
 use Rattle.passes.specs.Matching.{hitsOf}
 use Rattle.passes.specs.NormalEvaluation.{Dacl, normalOf}
 use Rattle.passes.specs.Confinement.{confinementOf}

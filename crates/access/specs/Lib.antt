@@ -3,16 +3,8 @@
 pub mod Granted
 -- status numbers, in order of checking
 pub mod Status
--- accepted questions, and the answer of the rules
-pub mod Accepted
--- the table of status numbers, line by line
-pub mod Conditions
 -- the question file
 pub mod QuestionFile
--- the bench cards as bytes
-pub mod Cards
--- demand 3's words: strangers
-pub mod Strangers
 -- how the code goes about it: the masks from the bytes of a flat listing; numbers 3 to 10 and what is found, whatever the mask; where the parts of
 -- a question file stand
 pub mod Evaluating

@@ -2,7 +2,7 @@
 -- sevens, nothing after." 12: "question file misshapen or above 65,536 bytes"; 12 comes first of all.
 use Prim.Native.Nat.{ℕ, _+_}
 use mathlib.Core.List.{List}
-use mathlib.Core.Bool.{Bool, cond}
+use mathlib.Core.Bool.{cond}
 use lib.ListN.{length}
 use lib.Dec.{ltb, leb, eqb}
 use Rattle.base.specs.Bytes.{Read, bind, only, part}

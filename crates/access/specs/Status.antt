@@ -10,10 +10,10 @@ use Rattle.lists.specs.Sid.{isSid}
 use Rattle.lists.specs.Acl.{entriesOf}
 use Rattle.lists.specs.Descriptor as descriptor
 use Rattle.lists.specs.Descriptor.{partsOf, ownerOf, daclOf}
-use Rattle.tokens.specs.Token.{Token}
-use Rattle.tokens.specs.TokenRecord.{readRecord}
-use Rattle.tokens.specs.TokenRules.{keeps}
-use Rattle.passes.specs.KindsAndMasks.{knownKind, legal}
+use Rattle.records.specs.Token.{Token}
+use Rattle.records.specs.TokenRecord.{readRecord}
+use Rattle.records.specs.TokenRules.{keeps}
+use Rattle.masks.specs.KindsAndMasks.{knownKind, legal}
 use Rattle.passes.specs.NormalEvaluation.{Dacl}
 use Rattle.policy.specs.Policy as policy
 use Rattle.policy.specs.Policy.{standingOf}

@@ -4,7 +4,7 @@ ghost use Rattle.access.specs.Granted.{allowedOf, answerOf};
 ghost use Rattle.access.specs.Status.{refused};
 ghost use Rattle.access.specs.Findings.{stopped};
 use lists::Rights;
-use passes::Tally;
+use masks::Tally;
 
 // The bits after normal evaluation, after confinement and after policy, and those on which a rule's
 // effective and staged results differ. It does not depend on the desired mask.
@@ -30,27 +30,27 @@ pub struct Answer {
 }
 
 // Findings that are refused with a number.
-pub fn stopped(status: u32) -> Findings
+pub(crate) fn stopped(status: u32) -> Findings
     ensures { λ r. ⌜ r ≡ stopped status ⌝ }
 {
     Findings {
         status,
         found: Found {
-            normal: Rights(Tally::NONE),
-            confined: Rights(Tally::NONE),
-            ruled: Rights(Tally::NONE),
-            differ: Rights(Tally::NONE),
+            normal: Tally::NONE,
+            confined: Tally::NONE,
+            ruled: Tally::NONE,
+            differ: Tally::NONE,
         },
     }
 }
 
 // An answer that is refused with a number: "On refusal mask 0, allowed no, flag clear".
-pub fn refused(status: u32) -> Answer
+pub(crate) fn refused(status: u32) -> Answer
     ensures { λ r. ⌜ r ≡ refused status ⌝ }
 {
     Answer {
         status,
-        granted: Rights(Tally::NONE),
+        granted: Tally::NONE,
         allowed: false,
         staged: false,
     }
@@ -60,21 +60,21 @@ pub fn refused(status: u32) -> Answer
 fn is_allowed(kind: u32, mask: Rights, granted: Rights) -> bool
     ensures { λ r. ⌜ r ≡ allowedOf kind (mask .0) (granted .0) ⌝ }
 {
-    let wanted = passes::explicit(kind, mask);
+    let wanted = masks::explicit(kind, mask);
     if granted.0 & wanted.0 != wanted.0 {
         return false;
     }
-    if mask.0 & Tally::MAXIMUM == 0 {
+    if mask.0 & Tally::MAXIMUM.0 == 0 {
         return true;
     }
     granted.0 != 0
 }
 
 // The answer for a mask, of a question that is not refused.
-pub fn read_off(kind: u32, mask: Rights, f: Found) -> Answer
+pub(crate) fn read_off(kind: u32, mask: Rights, f: Found) -> Answer
     ensures { λ r. ⌜ r ≡ answerOf kind (mask .0) f ⌝ }
 {
-    let asked = passes::asked(kind, mask);
+    let asked = masks::asked(kind, mask);
     let granted = Rights(asked.0 & f.ruled.0);
     Answer {
         status: 0,

@@ -1,6 +1,6 @@
 // The check: a question's kind and mask, then what is found, then the answer.
 ghost use mathlib.Core.Path.{_≡_};
-ghost use Rattle.passes.specs.KindsAndMasks.{knownKind};
+ghost use Rattle.masks.specs.KindsAndMasks.{knownKind};
 ghost use Rattle.access.specs.Status.{checked};
 use crate::answer::Answer;
 use crate::answer::read_off;
@@ -39,7 +39,7 @@ pub fn check(
     if !is_kind(kind) {
         return refused(1);
     }
-    if !passes::legal(kind, mask) {
+    if !masks::legal(kind, mask) {
         return refused(2);
     }
     let f = findings(kind, token, me, descriptor, policy);

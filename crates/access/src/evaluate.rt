@@ -3,16 +3,14 @@
 // made once and serve the descriptor's list and every rule.
 ghost use mathlib.Core.Path.{_≡_};
 ghost use Rattle.passes.specs.Confinement.{confines};
-ghost use Rattle.policy.specs.Found as policed;
+ghost use Rattle.policy.specs.ByLengths.{rulesByLengths};
 ghost use Rattle.access.specs.Evaluating.{daclAs, confinementIn, foundIn};
 use crate::answer::Found;
 use lists::Rights;
+use masks::Tally;
 
 // Where the user stands in a listing.
 const USER: usize = 12;
-
-// No bit is taken away.
-const EVERYTHING: u32 = 0xFFFFFFFF;
 
 // Whether confinement applies: flag 1, confined, without flag 2, exempt.
 fn confines(flags: u32) -> bool
@@ -39,7 +37,7 @@ fn confinement(
         (now (me .entry)) (daclAs present (now (list .entry))) ⌝ }
 {
     if !confines(base::u32_at(listing, 0)) {
-        return Rights(EVERYTHING);
+        return Tally::EVERYTHING;
     }
     let table = passes::marks(listing, place, false);
     let hits = passes::hits(listing, place, false, owner, me);
@@ -49,7 +47,7 @@ fn confinement(
 
 // What is found for a kind. The confinement identity stands at `place` of the listing, where the
 // token is confined; `list` is the descriptor's, and empty where it is not present.
-pub fn found_in(
+pub(crate) fn found_in(
     kind: u32,
     listing: &[u8],
     place: usize,
@@ -61,7 +59,7 @@ pub fn found_in(
 ) -> Found
     ensures { λ r. ⌜ r ≡ foundIn kind (now (listing .entry)) place (now (owner .entry))
         (now (me .entry)) (daclAs present (now (list .entry)))
-        (policed.foundOf (now (policy .entry))) ⌝ }
+        (rulesByLengths (now (policy .entry))) ⌝ }
 {
     let table = passes::marks(listing, USER, true);
     let hits = passes::hits(listing, USER, true, owner, me);

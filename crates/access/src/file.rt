@@ -4,7 +4,7 @@ ghost use mathlib.Core.Path.{_≡_};
 ghost use Prim.Native.Nat.{_≤_};
 ghost use lib.ListN.{length};
 ghost use Rattle.access.specs.QuestionFile.{blobAt, questionOf, fileAnswer};
-ghost use Rattle.access.specs.Blobs.{noBlob, bytesIn, handed, nowhere, posed, Inside};
+ghost use Rattle.access.specs.Blobs.{noBlob, bytesIn, handed, nowhere, posed, PlacesLie};
 use crate::answer::Answer;
 use crate::answer::refused;
 use crate::decide::check;
@@ -94,7 +94,7 @@ fn blob_at(s: &[u8], at: usize) -> Blob
 // The question that the bytes hold, and nothing after it.
 fn parse(s: &[u8]) -> Places
     ensures { λ r. ⌜ questionOf (now (s .entry)) ≡ posed (now (s .entry)) r ⌝ }
-    ensures { λ r. ⌜ Inside (now (s .entry)) r ⌝ }
+    ensures { λ r. ⌜ PlacesLie (now (s .entry)) r ⌝ }
 {
     let kind = base::number32(s, 0);
     if !kind.ok {

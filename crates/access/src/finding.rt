@@ -45,7 +45,13 @@ fn standing_number(v: Standing) -> u32
 }
 
 // What is found, or the number of a refusal.
-pub fn findings(kind: u32, token: &[u8], me: &[u8], descriptor: &[u8], policy: &[u8]) -> Findings
+pub(crate) fn findings(
+    kind: u32,
+    token: &[u8],
+    me: &[u8],
+    descriptor: &[u8],
+    policy: &[u8],
+) -> Findings
     ensures { λ r. ⌜ r ≡ findingsOf kind (now (token .entry)) (now (me .entry))
         (now (descriptor .entry)) (now (policy .entry)) ⌝ }
 {

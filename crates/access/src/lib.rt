@@ -7,10 +7,5 @@ mod file;
 mod finding;
 
 pub use answer::Answer;
-pub use answer::Findings;
-pub use answer::Found;
-pub use answer::read_off;
 pub use decide::check;
-pub use evaluate::found_in;
 pub use file::question;
-pub use finding::findings;

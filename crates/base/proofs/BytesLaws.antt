@@ -1,19 +1,19 @@
 -- Laws of lists of bytes. The index:
 -- same: same-refl same-eq eq-same same-sym same-length same-ne same-false-of-ne same-false-of-length; from a place: same-hit same-miss
 -- same-end.
--- Parts: part-append length-part part-at part-of-drop part-whole part-empty part-cons.
+-- Parts: part-append length-part part-at part-of-drop part-whole part-empty part-front part-short part-cons.
 -- Bytes: bytes-append bytes-take bytes-drop bytes-part bytes-reverse, byte-lt bytes-of-lt.
 -- Not here: numbers of two, four and six bytes, WordsLaws; what is written of a number, ValueLaws. Assumes nothing.
 use Prim.Native.Nat.{ℕ, zero, suc, _+_, _-_, _<_, _≤_}
 use mathlib.Core.Path.{_≡_, refl, sym, ap, ap₂, _∙_}
 use mathlib.Core.List.{List, [], _∷_, _++_, reverseAux}
 use mathlib.Core.Bool.{Bool, true, false, cond, not, _&&_}
-use native.Mathlib.Nat.{sub-zero}
+use native.Mathlib.Nat.{sub-zero, min-le-left}
 use native.Mathlib.Numerals.{add-one}
 use native.Mathlib.Omega.{arith}
 use lib.Dec.{T, eqb, ltb, ltb→lt}
 use lib.Pow.{areBytes}
-use lib.ListN.{length, getD, take, drop, length-drop, drop-of-length-le}
+use lib.ListN.{length, getD, take, drop, length-take, length-drop, drop-of-length-le}
 use lib.Seq.{drop-cons, drop-drop, take-add, take-length, length-take-le, take-append-seam, drop-append-seam}
 use borrow.Author.Tests.{lt-ltb, eq-eqb, ne-eqb, eqb-true}
 use Rattle.base.specs.Bytes.{same, unlike, part, byteAt}
@@ -117,6 +117,13 @@ part-whole s = ap (λ (n : ℕ). take n s) (sub-zero (length s)) ∙ take-length
 
 pub part-empty : (s : List ℕ) (a : ℕ) → part s a a ≡ []
 part-empty s a = let e : a - a ≡ 0 = omega arith in rw e
+
+-- lent from its start
+pub part-front : (l : List ℕ) (n : ℕ) → part l 0 n ≡ take n l
+part-front l n = let m : n - 0 ≡ n = omega arith in ap (λ (k : ℕ). take k l) m
+
+pub part-short : (l : List ℕ) (n : ℕ) → length (part l 0 n) ≤ n
+part-short l n = rw (part-front l n, length-take n l) (min-le-left n (length l))
 
 pub part-cons : (s : List ℕ) (a e : ℕ) → a < e → a < length s → part s a e ≡ byteAt s a ∷ part s (a + 1) e
 part-cons s a e h k =

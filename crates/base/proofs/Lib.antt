@@ -1,8 +1,23 @@
 -- The laws of this crate's definitions, for the proofs of its callers.
+-- tests joined
+pub mod BoolLaws
+-- equal bytes, and parts of a list
 pub mod BytesLaws
+-- numbers written in n bytes
 pub mod ValueLaws
+-- numbers of two, four and six bytes at a place
 pub mod WordsLaws
+-- bytes that stand at a place
+pub mod PlaceLaws
+-- taking a reading apart
+pub mod ReadLaws
+-- writing at a place, one thing after the other
+pub mod WriteLaws
+-- a mask bit by bit
 pub mod BitLaws
+-- masks as a whole
 pub mod BitsLaws
+-- a number in sevens, byte by byte
 pub mod SevensSteps
+-- a number in sevens, written and read back
 pub mod SevensLaws

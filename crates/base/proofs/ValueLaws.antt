@@ -1,11 +1,11 @@
 -- Laws of numbers written in n bytes, lowest first and highest first. The index:
--- length-little little-bytes length-big big-bytes; the value of bytes: value-little little-value big-reverse; the bytes at a place one
--- by one: part-bytes.
+-- length-little little-bytes length-big big-bytes; a low and a high part: little-add little-eight; the value of bytes: value-little
+-- little-value big-reverse; the bytes at a place one by one: part-bytes.
 -- Not here: numbers of two, four and six bytes at a place, WordsLaws. Assumes nothing.
 use Prim.Native.Nat.{ℕ, zero, suc, _+_, _*_, _/_, _%_, _^_, _<_, _≤_}
 use mathlib.Core.Path.{_≡_, refl, sym, ap, ap₂, _∙_}
 use mathlib.Core.List.{List, [], _∷_, _++_, reverse, reverse-cons}
-use native.Mathlib.Nat.{pow-suc, add-zero}
+use native.Mathlib.Nat.{pow-suc, add-zero, mul-assoc, mul-comm}
 use native.Mathlib.Numerals.{add-one}
 use native.Mathlib.Omega.{arith}
 use lib.Dec.{T}
@@ -36,6 +36,24 @@ pub big-bytes : (n v : ℕ) → T (areBytes (big n v))
 unfolding big
 big-bytes zero v = tt
 big-bytes (suc n) v = bytes-append (big n (v / 256)) ((v % 256) ∷ []) (big-bytes n (v / 256)) (rw (lt-ltb (v % 256) 256 (omega arith)) tt)
+
+-- the bytes of a number are those of its low part and those of its high part
+pub little-add : (m n a b : ℕ) → a < 256 ^ m → little (m + n) (a + 256 ^ m * b) ≡ little m a ++ little n b
+unfolding little
+little-add zero n a b h =
+    let k : 0 + n ≡ n = omega arith in
+    let e : a + 256 ^ 0 * b ≡ b = omega arith in
+    ap₂ little k e
+little-add (suc m) n a b h =
+    let p : 256 ^ suc m ≡ 256 ^ m * 256 = pow-suc 256 m in
+    let q : 256 ^ suc m * b ≡ 256 * (256 ^ m * b) = rw p (ap (λ (x : ℕ). x * b) (mul-comm (256 ^ m) 256) ∙ mul-assoc 256 (256 ^ m) b) in
+    let k : suc m + n ≡ suc (m + n) = omega arith in
+    let low : (a + 256 ^ suc m * b) % 256 ≡ a % 256 = omega arith in
+    let high : (a + 256 ^ suc m * b) / 256 ≡ a / 256 + 256 ^ m * b = omega arith in
+    rw k (ap₂ _∷_ low (ap (little (m + n)) high ∙ little-add m n (a / 256) b (omega arith)))
+
+pub little-eight : (a b : ℕ) → a < 2 ^ 32 → little 8 (a + 4294967296 * b) ≡ little 4 a ++ little 4 b
+little-eight a b h = little-add 4 4 a b h
 
 -- ---- the value of bytes, lowest first
 

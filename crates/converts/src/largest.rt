@@ -1,12 +1,17 @@
 // Tokens too long to write out, built from parts: 256 groups and 64 capabilities, each identity of
 // 15 words, each number the largest of its field.
+ghost use mathlib.Core.Path.{_≡_};
+ghost use Rattle.converts.specs.Buffers.{build, puts, fills, crowds, packedCrowd, flatCrowd};
+ghost use Rattle.converts.specs.Buffers.{recordButLast, listingButLast};
 use crate::report::listing;
-use crate::report::pair;
 use crate::report::pair_into;
 use crate::report::record;
 
 // Copies a part to a place, as far as the buffer goes, and answers the place after it.
-pub fn put(out: &mut [u8], at: usize, part: &[u8]) -> usize {
+fn put(out: &mut [u8], at: usize, part: &[u8]) -> usize
+    ensures { λ r. ⌜ build (now (out .exit)) r
+        ≡ puts (now (part .entry)) (build (now (out .entry)) at) ⌝ }
+{
     let mut to = at;
     let mut i: usize = 0;
     while i < part.len() {
@@ -21,7 +26,10 @@ pub fn put(out: &mut [u8], at: usize, part: &[u8]) -> usize {
 }
 
 // A part, some times in a row.
-pub fn fill(out: &mut [u8], at: usize, part: &[u8], times: usize) -> usize {
+fn fill(out: &mut [u8], at: usize, part: &[u8], times: usize) -> usize
+    ensures { λ r. ⌜ build (now (out .exit)) r
+        ≡ fills (now (part .entry)) times (build (now (out .entry)) at) ⌝ }
+{
     let mut to = at;
     let mut i: usize = 0;
     while i < times {
@@ -32,7 +40,11 @@ pub fn fill(out: &mut [u8], at: usize, part: &[u8], times: usize) -> usize {
 }
 
 // Identities of a head and 15 words, each with a tail after it.
-fn crowd(out: &mut [u8], at: usize, head: &[u8], word: &[u8], tail: &[u8], times: usize) -> usize {
+fn crowd(out: &mut [u8], at: usize, head: &[u8], word: &[u8], tail: &[u8], times: usize) -> usize
+    ensures { λ r. ⌜ build (now (out .exit)) r
+        ≡ crowds (now (head .entry)) (now (word .entry)) (now (tail .entry)) times
+        (build (now (out .entry)) at) ⌝ }
+{
     let mut to = at;
     let mut i: usize = 0;
     while i < times {
@@ -45,19 +57,25 @@ fn crowd(out: &mut [u8], at: usize, head: &[u8], word: &[u8], tail: &[u8], times
 }
 
 // A number of identities with no tail, in a record: 83 bytes each.
-fn packed(out: &mut [u8], at: usize, times: usize) -> usize {
+fn packed(out: &mut [u8], at: usize, times: usize) -> usize
+    ensures { λ r. ⌜ build (now (out .exit)) r ≡ packedCrowd times (build (now (out .entry)) at) ⌝ }
+{
     let head = b"\x0f\xff\xff\xff\xff\xff\xff\x3f";
     crowd(out, at, head, b"\xff\xff\xff\xff\x0f", b"", times)
 }
 
 // The same in a listing: 68 bytes each.
-fn flat(out: &mut [u8], at: usize, times: usize) -> usize {
+fn flat(out: &mut [u8], at: usize, times: usize) -> usize
+    ensures { λ r. ⌜ build (now (out .exit)) r ≡ flatCrowd times (build (now (out .entry)) at) ⌝ }
+{
     let head = b"\x01\x0f\xff\xff\xff\xff\xff\xff";
     crowd(out, at, head, b"\xff\xff\xff\xff", b"", times)
 }
 
 // The record up to the last of its 64 capabilities.
-fn record_but_last(out: &mut [u8]) -> usize {
+fn record_but_last(out: &mut [u8]) -> usize
+    ensures { λ r. ⌜ build (now (out .exit)) r ≡ recordButLast (build (now (out .entry)) 0) ⌝ }
+{
     let user = put(out, 0, b"\x01\x01\xff\xff\xff\xff\xff\xff\xff\xff\xff\x01");
     let count = packed(out, user, 1);
     let groups = put(out, count, b"\x80\x02");
@@ -70,7 +88,9 @@ fn record_but_last(out: &mut [u8]) -> usize {
 }
 
 // The listing up to the last of its 64 capabilities.
-fn listing_but_last(out: &mut [u8]) -> usize {
+fn listing_but_last(out: &mut [u8]) -> usize
+    ensures { λ r. ⌜ build (now (out .exit)) r ≡ listingButLast (build (now (out .entry)) 0) ⌝ }
+{
     let user = put(out, 0, b"\x01\0\0\0\xff\xff\xff\xff\xff\xff\xff\xff");
     let count = flat(out, user, 1);
     let groups = put(out, count, b"\0\x01\0\0");
@@ -83,7 +103,7 @@ fn listing_but_last(out: &mut [u8]) -> usize {
 }
 
 // The largest token that no rule refuses: its last capability is S-1-15-2-2.
-pub fn accepted() {
+pub(crate) fn accepted() {
     let mut packed = [0u8; 28021];
     let r = record_but_last(&mut packed);
     let n = put(&mut packed, r, b"\x02\x0f\x02\x02");
@@ -96,7 +116,7 @@ pub fn accepted() {
     if 22940 < m {
         return;
     }
-    pair(b"largest", &packed[0..n], &flat[0..m]);
+    pair_into(b"largest", &packed[0..n], &flat[0..m], 22940, 28021);
     pair_into(
         b"largest, a byte short",
         &packed[0..n],
@@ -107,7 +127,7 @@ pub fn accepted() {
 }
 
 // The largest token by shape, which has no capability S-1-15-2-2.
-pub fn by_shape() {
+pub(crate) fn by_shape() {
     let mut record_bytes = [0u8; 28021];
     let r = record_but_last(&mut record_bytes);
     packed(&mut record_bytes, r, 1);

@@ -1,15 +1,20 @@
 // Converts, and writes what came of it.
+ghost use mathlib.Core.Path.{_≡_};
+ghost use mathlib.Core.List.{_++_};
 ghost use Prim.Native.Nat.{_≤_};
-ghost use lib.ListN.{length};
-use libc::STDOUT_FILENO;
+ghost use lib.ListN.{length, take, drop};
+ghost use lib.Seq.{sets};
+ghost use Rattle.records.specs.Converters.{asListing, asRecord, fitted};
+ghost use Rattle.tokens.specs.Answers.{answered};
+ghost use Rattle.converts.specs.Buffers.{untouched};
+use testkit::print;
+use testkit::print_number;
 use tokens::Converted;
 
-fn print(text: &[u8]) {
-    io::write_all(STDOUT_FILENO, text);
-}
-
 // Whether each byte is the one that a buffer is filled with before it is lent.
-fn is_untouched(s: &[u8]) -> bool {
+fn is_untouched(s: &[u8]) -> bool
+    ensures { λ r. ⌜ r ≡ untouched (now (s .entry)) ⌝ }
+{
     let mut i: usize = 0;
     while i < s.len() {
         if s[i] != 170 {
@@ -20,43 +25,40 @@ fn is_untouched(s: &[u8]) -> bool {
     true
 }
 
-fn print_kept(rest: &[u8]) {
-    if is_untouched(rest) {
-        print(b" kept");
+fn print_either(test: bool, yes: &[u8], no: &[u8]) {
+    if test {
+        print(yes);
         return;
     }
-    print(b" CHANGED");
-}
-
-fn print_same(a: &[u8], b: &[u8]) {
-    if base::same(a, b) {
-        print(b" same");
-        return;
-    }
-    print(b" OTHER");
+    print(no);
 }
 
 // Writes one answer: what stands in the whole buffer, of which a part was lent, and what is wanted
 // there on success.
 fn print_answer(c: Converted, buffer: &[u8], wanted: &[u8]) {
     print(b" ");
-    io::print_decimal(STDOUT_FILENO, c.status as u64);
+    print_number(c.status as u64);
     print(b" ");
-    io::print_decimal(STDOUT_FILENO, c.length as u64);
+    print_number(c.length as u64);
     let n = c.length;
     if buffer.len() < n {
         print(b" TOO LONG");
         return;
     }
-    print_kept(&buffer[n..]);
+    print_either(is_untouched(&buffer[n..]), b" kept", b" CHANGED");
     if c.status == 0 {
-        print_same(&buffer[0..n], wanted);
+        print_either(base::same(&buffer[0..n], wanted), b" same", b" OTHER");
     }
 }
 
 // A record into the first `room` bytes of a buffer.
 fn listing_into(record: &[u8], buffer: &mut [u8], room: usize) -> Converted
     requires { ⌜ room ≤ length (now buffer) ⌝ }
+    ensures { λ r. ⌜ r ≡ answered (fitted room (asListing (now («record» .entry)))) ⌝ }
+    ensures { λ r. ⌜ now (buffer .exit)
+        ≡ sets (take room (now (buffer .entry))) 0
+        (fitted room (asListing (now («record» .entry))) .bytes)
+        ++ drop room (now (buffer .entry)) ⌝ }
 {
     tokens::to_listing(record, &mut buffer[0..room])
 }
@@ -64,6 +66,11 @@ fn listing_into(record: &[u8], buffer: &mut [u8], room: usize) -> Converted
 // A listing into the first `room` bytes of a buffer.
 fn record_into(listing: &[u8], buffer: &mut [u8], room: usize) -> Converted
     requires { ⌜ room ≤ length (now buffer) ⌝ }
+    ensures { λ r. ⌜ r ≡ answered (fitted room (asRecord (now (listing .entry)))) ⌝ }
+    ensures { λ r. ⌜ now (buffer .exit)
+        ≡ sets (take room (now (buffer .entry))) 0
+        (fitted room (asRecord (now (listing .entry))) .bytes)
+        ++ drop room (now (buffer .entry)) ⌝ }
 {
     tokens::to_record(listing, &mut buffer[0..room])
 }
@@ -87,7 +94,7 @@ fn back(listing: &[u8], room: usize, record: &[u8])
 }
 
 // A token in its two forms: the listing into a buffer of `room` bytes, the record into `hold`.
-pub fn pair_into(name: &[u8], record: &[u8], listing: &[u8], room: usize, hold: usize)
+pub(crate) fn pair_into(name: &[u8], record: &[u8], listing: &[u8], room: usize, hold: usize)
     requires { ⌜ (room ≤ 22940) × (hold ≤ 28021) ⌝ }
 {
     print(name);
@@ -98,28 +105,23 @@ pub fn pair_into(name: &[u8], record: &[u8], listing: &[u8], room: usize, hold: 
     print(b"\n");
 }
 
-// A token in its two forms, each into the longest buffer that can be filled.
-pub fn pair(name: &[u8], record: &[u8], listing: &[u8]) {
-    pair_into(name, record, listing, 22940, 28021);
-}
-
 fn print_case(form: &[u8], length: usize, name: &[u8]) {
     print(form);
-    io::print_decimal(STDOUT_FILENO, length as u64);
+    print_number(length as u64);
     print(b" bytes, ");
     print(name);
     print(b":");
 }
 
 // A record that is refused.
-pub fn record(name: &[u8], s: &[u8]) {
+pub(crate) fn record(name: &[u8], s: &[u8]) {
     print_case(b"record of ", s.len(), name);
     forth(s, 22940, b"");
     print(b"\n");
 }
 
 // A listing that is refused.
-pub fn listing(name: &[u8], s: &[u8]) {
+pub(crate) fn listing(name: &[u8], s: &[u8]) {
     print_case(b"listing of ", s.len(), name);
     back(s, 28021, b"");
     print(b"\n");

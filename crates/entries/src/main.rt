@@ -2,163 +2,44 @@
 // entry with its type, flags, mask and the bytes of its SID. The lines in `stdout` are decided from
 // the page and not from this program.
 ghost use Prim.Native.Nat.{_<_};
-use libc::STDOUT_FILENO;
 use lists::Ace;
 use lists::Extent;
 use reader::Step;
-
-// "Descriptor D (64 bytes)": its DACL has one entry.
-const D: [u8; 64] = [
-    1,
-    0,
-    4,
-    128,
-    20,
-    0,
-    0,
-    0,
-    0,
-    0,
-    0,
-    0,
-    0,
-    0,
-    0,
-    0,
-    32,
-    0,
-    0,
-    0,
-    1,
-    1,
-    0,
-    0,
-    0,
-    0,
-    0,
-    5,
-    7,
-    0,
-    0,
-    0,
-    2,
-    0,
-    32,
-    0,
-    1,
-    0,
-    0,
-    0,
-    0,
-    0,
-    24,
-    0,
-    0,
-    0,
-    0,
-    128,
-    1,
-    2,
-    0,
-    0,
-    0,
-    0,
-    0,
-    5,
-    0,
-    0,
-    0,
-    0,
-    7,
-    0,
-    0,
-    0,
-];
-
-// Two entries of 16 bytes: allow 1 to S-1-5 at 8, deny 2 to S-1-7 at 24 with flag 8.
-const TWO: [u8; 40] = [
-    2,
-    0,
-    40,
-    0,
-    2,
-    0,
-    0,
-    0,
-    0,
-    0,
-    16,
-    0,
-    1,
-    0,
-    0,
-    0,
-    1,
-    0,
-    0,
-    0,
-    0,
-    0,
-    0,
-    5,
-    1,
-    8,
-    16,
-    0,
-    2,
-    0,
-    0,
-    0,
-    1,
-    0,
-    0,
-    0,
-    0,
-    0,
-    0,
-    7,
-];
-
-// Writes bytes, two digits each.
-fn hex(s: &[u8]) {
-    let mut i: usize = 0;
-    while i < s.len() {
-        io::print_hex(STDOUT_FILENO, base::wide(s[i]) as u64, 2);
-        i += 1;
-    }
-}
+use testkit::print;
+use testkit::print_bytes;
+use testkit::print_hex;
 
 // Writes an entry's type.
 fn kind(k: u8) {
     if k == 0 {
-        io::write_all(STDOUT_FILENO, b"  allow");
+        print(b"  allow");
         return;
     }
-    io::write_all(STDOUT_FILENO, b"  deny");
+    print(b"  deny");
 }
 
 // Writes the line of an entry of the list.
 fn show(list: &[u8], a: Ace) {
     kind(a.kind);
-    io::write_all(STDOUT_FILENO, b" flags ");
-    io::print_hex(STDOUT_FILENO, base::wide(a.flags) as u64, 2);
-    io::write_all(STDOUT_FILENO, b" mask ");
-    io::print_hex(STDOUT_FILENO, a.mask.0 as u64, 8);
-    io::write_all(STDOUT_FILENO, b" sid ");
-    hex(lists::part(
+    print(b" flags ");
+    print_hex(base::wide(a.flags) as u64, 2);
+    print(b" mask ");
+    print_hex(a.mask.0 as u64, 8);
+    print(b" sid ");
+    print_bytes(lists::part(
         list,
         Extent {
             from: a.from,
             to: a.to,
         },
     ));
-    io::write_all(STDOUT_FILENO, b"\n");
+    print(b"\n");
 }
 
 // Writes the lines of a list: its name, then an entry after the other, to the end.
 fn listed(name: &[u8], list: &[u8]) {
-    io::write_all(STDOUT_FILENO, name);
-    io::write_all(STDOUT_FILENO, b"\n");
+    print(name);
+    print(b"\n");
     let mut at: usize = 8;
     let mut step = reader::first(list);
     loop {
@@ -171,17 +52,20 @@ fn listed(name: &[u8], list: &[u8]) {
     }
 }
 
-// The list of two with another byte at a place.
+// Two entries of 16 bytes, allow 1 to S-1-5 at 8 and deny 2 to S-1-7 at 24 with flag 8, with
+// another byte at a place.
 fn changed(name: &[u8], at: usize, v: u8)
     requires { ⌜ at < 40 ⌝ }
 {
-    let mut l = TWO;
+    let mut l = *b"\x02\0\x28\0\x02\0\0\0\
+        \0\0\x10\0\x01\0\0\0\x01\0\0\0\0\0\0\x05\
+        \x01\x08\x10\0\x02\0\0\0\x01\0\0\0\0\0\0\x07";
     l[at] = v;
     listed(name, &l[0..40]);
 }
 
 fn main() {
-    let d = D;
+    let d = testkit::descriptor();
     listed(b"the DACL of D", lists::dacl(&d[0..64]));
     listed(b"the SACL of D", lists::sacl(&d[0..64]));
     changed(b"two entries", 0, 2);

@@ -2,10 +2,10 @@
 -- "Two identities are equal when these bytes are equal": equality of identities is `same` of base's Bytes.
 use Prim.Native.Nat.{ℕ, _+_, _*_}
 use mathlib.Core.List.{List, [], _∷_}
-use mathlib.Core.Bool.{Bool, false, cond}
+use mathlib.Core.Bool.{Bool, false, cond, _||_}
 use lib.ListN.{length}
 use lib.Dec.{ltb, eqb}
-use Rattle.base.specs.Bytes.{byteAt}
+use Rattle.base.specs.Bytes.{byteAt, same}
 
 -- the place after the SID that stands whole at a place; 0 where none does
 unfoldable pub sidEnd : List ℕ → ℕ → ℕ
@@ -27,3 +27,7 @@ ownerRights = 1 ∷ 1 ∷ 0 ∷ 0 ∷ 0 ∷ 0 ∷ 0 ∷ 3 ∷ 4 ∷ 0 ∷ 0 ∷ 
 
 abbrev pub principalSelf : List ℕ
 principalSelf = 1 ∷ 1 ∷ 0 ∷ 0 ∷ 0 ∷ 0 ∷ 0 ∷ 5 ∷ 10 ∷ 0 ∷ 0 ∷ 0 ∷ []
+
+-- S-1-3-4 or S-1-5-10
+abbrev pub virtual : List ℕ → Bool
+virtual w = same w ownerRights || same w principalSelf

@@ -19,5 +19,7 @@ pub use descriptor::owner;
 pub use descriptor::part;
 pub use descriptor::read;
 pub use descriptor::sacl;
+pub use sid::is_owner_rights;
 pub use sid::is_sid;
+pub use sid::is_virtual;
 pub use sid::sid_end;

@@ -1,8 +1,14 @@
-// One identity at a place of lent bytes.
+// One identity at a place of lent bytes, and the two virtual identities.
 ghost use mathlib.Core.Path.{_≡_};
 ghost use Prim.Native.Nat.{_≤_};
 ghost use lib.ListN.{length};
-ghost use Rattle.lists.specs.Sid.{sidEnd, isSid};
+ghost use Rattle.base.specs.Bytes.{same};
+ghost use Rattle.lists.specs.Sid.{sidEnd, isSid, ownerRights, virtual};
+
+// S-1-3-4, owner rights, and S-1-5-10, the object itself.
+const OWNER_RIGHTS: [u8; 12] = [1, 1, 0, 0, 0, 0, 0, 3, 4, 0, 0, 0];
+
+const PRINCIPAL_SELF: [u8; 12] = [1, 1, 0, 0, 0, 0, 0, 5, 10, 0, 0, 0];
 
 // The place after the SID that stands whole at `at`, or 0 where none does.
 pub fn sid_end(s: &[u8], at: usize) -> usize
@@ -37,4 +43,23 @@ pub fn is_sid(s: &[u8]) -> bool
         return false;
     }
     e == s.len()
+}
+
+// Whether a SID is S-1-3-4.
+pub fn is_owner_rights(w: &[u8]) -> bool
+    ensures { λ r. ⌜ r ≡ same (now (w .entry)) ownerRights ⌝ }
+{
+    let owner = OWNER_RIGHTS;
+    base::same(w, &owner)
+}
+
+// Whether a SID is one of the two virtual identities.
+pub fn is_virtual(w: &[u8]) -> bool
+    ensures { λ r. ⌜ r ≡ virtual (now (w .entry)) ⌝ }
+{
+    if is_owner_rights(w) {
+        return true;
+    }
+    let itself = PRINCIPAL_SELF;
+    base::same(w, &itself)
 }

@@ -6,7 +6,7 @@ use mathlib.Core.List.{List, []}
 use mathlib.Core.Path.{_≡_, refl, ap}
 use Rattle.base.specs.Bytes.{u16At}
 use Rattle.lists.specs.Acl.{entriesAt, entriesOf}
-use Rattle.tokens.specs.Crowd.{Member}
+use Rattle.records.specs.Crowd.{Member}
 use Rattle.passes.specs.NormalEvaluation.{Dacl, listGives, normalOf}
 use Rattle.passes.specs.OneWalk.{walkedOf, listedBy, normalBy}
 use Rattle.passes.specs.declared.matching.Hits.{Hits}

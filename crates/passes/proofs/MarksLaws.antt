@@ -14,18 +14,18 @@ use lib.Seq.{getD-set-same}
 use Rattle.base.proofs.BytesLaws.{same-eq}
 use Rattle.base.specs.Bytes.{same, byteAt}
 use Rattle.lists.specs.Acl.{Entry}
-use Rattle.lists.specs.Sid.{ownerRights, principalSelf}
-use Rattle.tokens.specs.Crowd.{Member}
-use Rattle.tokens.specs.TokenRules.{virtual}
+use Rattle.lists.specs.Sid.{ownerRights, principalSelf, virtual}
+use Rattle.records.specs.Crowd.{Member}
 use Rattle.passes.specs.Marks.{keyOf, unmarked, marked, marksOf, dismissed, kept}
 use Rattle.passes.specs.Matching.{among, matches}
 use Rattle.passes.specs.NormalEvaluation.{counts, namesOwner}
-use Rattle.passes.specs.OnePass.{emptied, skipped, allows, taken, run, passed}
+use Rattle.masks.specs.TheTally.{emptied}
+use Rattle.passes.specs.OnePass.{skipped, allows, taken, run, passed}
 use Rattle.passes.specs.OneWalk.{walkedBy, walkedOf}
 use Rattle.passes.specs.declared.matching.Hits.{Hits}
-use Rattle.passes.specs.declared.tally.Tally.{Tally}
+use Rattle.masks.specs.declared.tally.Tally.{Tally}
 use Rattle.passes.specs.declared.walk.Walked.{Walked}
-use Rattle.passes.proofs.BoolLaws.{and-false, true-false}
+use Rattle.base.proofs.BoolLaws.{and-false, true-false}
 use Rattle.passes.proofs.MatchingLaws.{matches-among}
 
 -- ---- a mark stays

@@ -9,13 +9,12 @@ use borrow.Author.Tests.{eq-eqb}
 use lib.Dec.{eqb}
 use lib.ListN.{length}
 use Rattle.base.specs.Bytes.{same}
-use Rattle.lists.specs.Sid.{ownerRights, principalSelf}
-use Rattle.tokens.specs.Crowd.{Member}
-use Rattle.tokens.specs.TokenRules.{virtual}
+use Rattle.lists.specs.Sid.{ownerRights, principalSelf, virtual}
+use Rattle.records.specs.Crowd.{Member}
 use Rattle.passes.specs.Matching.{among, stands, side, matches}
-use Rattle.passes.specs.OneWalk.{answered}
+use Rattle.passes.specs.OneWalk.{virtualMatches}
 use Rattle.passes.specs.declared.matching.Hits.{Hits}
-use Rattle.passes.proofs.BoolLaws.{true-false}
+use Rattle.base.proofs.BoolLaws.{true-false}
 
 first-of : {A : Type 0} (p q : Bool) (a b c : A) → (p || q) ≡ true → cond p a (cond q b c) ≡ cond p a b
 first-of true q a b c e = refl
@@ -32,7 +31,7 @@ either true = refl
 either false = refl
 
 module _ (allow : Bool) (ms : List Member) (w : List ℕ) where
-  pub matches-virtual : (h : Hits) → virtual w ≡ true → matches allow ms h w ≡ answered allow h w
+  pub matches-virtual : (h : Hits) → virtual w ≡ true → matches allow ms h w ≡ virtualMatches allow h w
   unfolding matches
   matches-virtual h v = first-of (same w ownerRights) (same w principalSelf) (side allow (h .owner)) (side allow (h .me))
       (among allow ms w) v

@@ -11,14 +11,15 @@ use Rattle.base.proofs.BitLaws.{and-bit, or-bit, flip-bit, zero-bit}
 use Rattle.base.proofs.BitsLaws.{within-trans, and-within-l, or-within}
 use Rattle.base.specs.Bits.{and, or, flip, bit, Within}
 use Rattle.lists.specs.Acl.{Entry}
-use Rattle.tokens.specs.Crowd.{Member}
-use Rattle.passes.specs.KindsAndMasks.{allBits, entryMask}
+use Rattle.records.specs.Crowd.{Member}
+use Rattle.masks.specs.KindsAndMasks.{allBits, entryMask}
 use Rattle.passes.specs.Matching.{matches}
-use Rattle.passes.specs.OnePass.{emptied, allowing, denying, skipped, allows, taken, run, passed, granted}
+use Rattle.masks.specs.TheTally.{emptied, allowing, denying}
+use Rattle.passes.specs.OnePass.{skipped, allows, taken, run, passed, granted}
 use Rattle.passes.specs.declared.matching.Hits.{Hits}
-use Rattle.passes.specs.declared.tally.Tally.{Tally}
-use Rattle.passes.proofs.BoolLaws.{true-false}
-use Rattle.passes.proofs.MasksLaws.{all-bits-lt, all-bits-high, within-lt, within-false, entry-mask-within, entry-mask-lt}
+use Rattle.masks.specs.declared.tally.Tally.{Tally}
+use Rattle.base.proofs.BoolLaws.{true-false}
+use Rattle.masks.proofs.MasksLaws.{all-bits-lt, all-bits-high, within-lt, within-false, entry-mask-within, entry-mask-lt}
 
 -- ---- nothing outside the kind's all bits
 

@@ -6,22 +6,23 @@ use mathlib.Core.List.{List, [], _∷_}
 use mathlib.Core.Path.{_≡_, refl, sym, ap, ap₂, _∙_}
 use native.Mathlib.Omega.{arith}
 use borrow.Author.Tests.{eq-eqb, ne-eqb}
-use Rattle.base.specs.Bits.{and, has, covers}
+use Rattle.base.specs.Bits.{has, covers}
 use Rattle.base.specs.Bytes.{same, part, u16At}
 use Rattle.lists.specs.Acl.{Entry, aceAt, entryOf, entriesAt, entriesOf}
 use Rattle.lists.specs.Sid.{ownerRights}
 use Rattle.lists.specs.declared.acl.Ace.{Ace}
-use Rattle.tokens.specs.Crowd.{Member}
-use Rattle.passes.specs.KindsAndMasks.{entryMask}
+use Rattle.records.specs.Crowd.{Member}
+use Rattle.masks.specs.KindsAndMasks.{entryMask}
 use Rattle.passes.specs.Marks.{dismissed, kept}
 use Rattle.passes.specs.Matching.{matches}
 use Rattle.passes.specs.NormalEvaluation.{namesOwner}
-use Rattle.passes.specs.OnePass.{tally, emptied, allowing, denying, allows, taken, run}
-use Rattle.passes.specs.OneWalk.{stepped, idle, walkedBy, walkedFrom, walkedOf}
+use Rattle.masks.specs.TheTally.{emptied, allowing, denying, stepped, idle}
+use Rattle.passes.specs.OnePass.{allows, taken, run}
+use Rattle.passes.specs.OneWalk.{walkedBy, walkedFrom, walkedOf}
 use Rattle.passes.specs.declared.matching.Hits.{Hits}
-use Rattle.passes.specs.declared.tally.Tally.{Tally}
-use Rattle.passes.proofs.BoolLaws.{or-false}
-use Rattle.passes.proofs.TallyLaws.{allowing-decided, denying-decided}
+use Rattle.masks.specs.declared.tally.Tally.{Tally}
+use Rattle.base.proofs.BoolLaws.{or-false}
+use Rattle.masks.proofs.TallyLaws.{allowing-decided, denying-decided}
 
 -- ---- the tally
 

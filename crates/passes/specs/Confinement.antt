@@ -4,8 +4,8 @@
 use Prim.Native.Nat.{ℕ}
 use mathlib.Core.List.{List}
 use mathlib.Core.Bool.{Bool, cond, not, _&&_}
-use Rattle.tokens.specs.Token.{Token, confined, exempt}
-use Rattle.tokens.specs.Crowd.{confinedOf}
+use Rattle.records.specs.Token.{Token, confined, exempt}
+use Rattle.records.specs.Crowd.{confinedOf}
 use Rattle.passes.specs.Matching.{hitsOf}
 use Rattle.passes.specs.NormalEvaluation.{Dacl, listGives}
 

@@ -1,9 +1,7 @@
--- "Kinds and masks" and "One pass over a list", in the page's order.
--- the two kinds, generic bits, explicit and asked bits
-pub mod KindsAndMasks
+-- "One pass over a list", in the page's order.
 -- which SIDs match, for allow and for deny, with the two virtual identities
 pub mod Matching
--- the tally, one entry after the other
+-- entries in stored order, and what they decide
 pub mod OnePass
 -- owner's rights and the two privileges
 pub mod NormalEvaluation

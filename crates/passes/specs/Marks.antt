@@ -2,12 +2,12 @@
 -- last words of S-1-3-4 and S-1-5-10. An entry whose SID finds no mark names nobody (MarksLaws).
 use Prim.Native.Nat.{ℕ, _+_, _-_, _*_, _%_}
 use mathlib.Core.List.{List, [], _∷_}
-use mathlib.Core.Bool.{Bool, true, false, cond}
+use mathlib.Core.Bool.{Bool, cond}
 use lib.ListN.{length, set, replicate}
 use lib.Dec.{ltb, eqb}
 use Rattle.base.specs.Bytes.{byteAt}
 use Rattle.lists.specs.Acl.{Entry}
-use Rattle.tokens.specs.Crowd.{Member}
+use Rattle.records.specs.Crowd.{Member}
 
 -- the lowest twelve bits of a SID's last word
 unfoldable pub keyOf : List ℕ → ℕ

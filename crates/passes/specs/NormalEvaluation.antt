@@ -6,8 +6,8 @@ use Rattle.base.specs.Bytes.{same}
 use Rattle.base.specs.Bits.{or, has}
 use Rattle.lists.specs.Sid.{ownerRights}
 use Rattle.lists.specs.Acl.{Entry}
-use Rattle.tokens.specs.Crowd.{Member}
-use Rattle.passes.specs.KindsAndMasks.{allBits, systemSecurity}
+use Rattle.records.specs.Crowd.{Member}
+use Rattle.masks.specs.KindsAndMasks.{allBits, systemSecurity}
 use Rattle.passes.specs.OnePass.{passed}
 use Rattle.passes.specs.declared.matching.Hits.{Hits}
 

@@ -1,30 +1,17 @@
 -- "Entries are taken in stored order, those with flag 0x08 skipped. Each bit is decided by the first matching entry that has it; an
--- undecided bit is not granted. A tally of bits decided and bits allowed takes one entry and gives the next tally; every pass begins with
--- the empty tally."
+-- undecided bit is not granted." The tally that takes one entry and gives the next stands in masks (TheTally).
 use Prim.Native.Nat.{ℕ}
 use mathlib.Core.List.{List, [], _∷_}
-use mathlib.Core.Bool.{Bool, true, false, cond}
+use mathlib.Core.Bool.{Bool, false, cond}
 use lib.Dec.{eqb}
-use Rattle.base.specs.Bits.{and, or, flip, has, bit}
+use Rattle.base.specs.Bits.{has, bit}
 use Rattle.lists.specs.Acl.{Entry}
-use Rattle.tokens.specs.Crowd.{Member}
-use Rattle.passes.specs.KindsAndMasks.{entryMask}
+use Rattle.records.specs.Crowd.{Member}
+use Rattle.masks.specs.KindsAndMasks.{entryMask}
+use Rattle.masks.specs.TheTally.{emptied, allowing, denying}
 use Rattle.passes.specs.Matching.{matches}
 use Rattle.passes.specs.declared.matching.Hits.{Hits}
-use Rattle.passes.specs.declared.tally.Tally.{Tally}
-
-abbrev pub tally : ℕ → ℕ → Tally
-tally d a = record { decided = record { 0 = d }; allowed = record { 0 = a } }
-
-abbrev pub emptied : Tally
-emptied = tally 0 0
-
--- an allow entry's bits are decided, and allowed where they were not decided before; a deny entry's are decided
-abbrev pub allowing : Tally → ℕ → Tally
-allowing t m = tally (or (t .decided .0) m) (or (t .allowed .0) (and m (flip (t .decided .0))))
-
-abbrev pub denying : Tally → ℕ → Tally
-denying t m = tally (or (t .decided .0) m) (t .allowed .0)
+use Rattle.masks.specs.declared.tally.Tally.{Tally}
 
 -- flag 0x08, inherit only: the entry says nothing of the object itself
 abbrev pub skipped : Entry → Bool

@@ -8,7 +8,7 @@ use lib.Dec.{ltb, eqb}
 use Rattle.base.specs.Bytes.{u32At, part, same}
 use Rattle.base.specs.Bits.{has}
 use Rattle.lists.specs.Sid.{sidEnd}
-use Rattle.tokens.specs.Crowd.{Member, width, membersAt}
+use Rattle.records.specs.Crowd.{Member, width, membersAt}
 use Rattle.passes.specs.declared.seats.Seat.{Seat}
 
 -- "for allow .. a group with attribute 0x4 and without 0x10; for deny .. a group with 0x4 or 0x10"
@@ -27,8 +27,8 @@ abbrev pub onward : List ℕ → ℕ → ℕ → ℕ
 onward s e n = cond (ltb (length s) (e + n)) (length s) (e + n)
 
 -- the seat lies inside n bytes
-abbrev pub Inside : ℕ → Seat → Type 0
-Inside n x = (x .from ≤ x .to) × ((x .to ≤ n) × (x .next ≤ n))
+abbrev pub SeatLies : ℕ → Seat → Type 0
+SeatLies n x = (x .from ≤ x .to) × ((x .to ≤ n) × (x .next ≤ n))
 
 -- the first identity: for both, with a count after it
 unfoldable pub firstSeat : List ℕ → ℕ → Seat

@@ -4,11 +4,11 @@ ghost use mathlib.Core.Bool.{cond};
 ghost use Rattle.base.specs.Bits.{has};
 ghost use Rattle.passes.specs.OneWalk.{listedBy, normalBy};
 ghost use Rattle.passes.specs.NormalEvaluation.{ownerGives, privilegesGive};
-use crate::masks::all_bits;
 use crate::matching::Hits;
-use crate::tally::Tally;
 use crate::walk::Walked;
 use lists::Rights;
+use masks::Tally;
+use masks::all_bits;
 
 // What the list alone gives; a null DACL, which is not present, gives the kind's all bits. In
 // confinement this is all.
@@ -22,8 +22,8 @@ pub fn listed(kind: u32, present: bool, walked: Walked) -> Rights
 }
 
 // The owner's two rights, where the owner matches for allow and no entry names S-1-3-4.
-fn owner_gives(hits: Hits, named: bool) -> u32
-    ensures { λ r. ⌜ r ≡ ownerGives hits named ⌝ }
+fn owner_gives(hits: Hits, named: bool) -> Rights
+    ensures { λ r. ⌜ r .0 ≡ ownerGives hits named ⌝ }
 {
     if named {
         return Tally::NONE;
@@ -36,8 +36,8 @@ fn owner_gives(hits: Hits, named: bool) -> u32
 }
 
 // The right, where the privileges have the bit.
-fn when(privileges: u64, bit: u64, right: u32) -> u32
-    ensures { λ r. ⌜ r ≡ cond (has privileges bit) right 0 ⌝ }
+fn when(privileges: u64, bit: u64, right: Rights) -> Rights
+    ensures { λ r. ⌜ r .0 ≡ cond (has privileges bit) (right .0) 0 ⌝ }
 {
     if privileges & bit == 0 {
         Tally::NONE
@@ -47,12 +47,12 @@ fn when(privileges: u64, bit: u64, right: u32) -> u32
 }
 
 // What SeTakeOwnership (bit 9) and SeSecurity (bit 8) add.
-fn privileges_give(privileges: u64) -> u32
-    ensures { λ r. ⌜ r ≡ privilegesGive privileges ⌝ }
+fn privileges_give(privileges: u64) -> Rights
+    ensures { λ r. ⌜ r .0 ≡ privilegesGive privileges ⌝ }
 {
     let take = when(privileges, 0x200, Tally::TAKE_OWNERSHIP);
     let security = when(privileges, 0x100, Tally::SYSTEM_SECURITY);
-    take | security
+    Rights(take.0 | security.0)
 }
 
 // Normal evaluation: the list, the owner's rights and the privileges.
@@ -61,5 +61,7 @@ pub fn normal(kind: u32, present: bool, walked: Walked, hits: Hits, privileges: 
 {
     let list = listed(kind, present, walked);
     let named = walked.named;
-    Rights(list.0 | (owner_gives(hits, named) | privileges_give(privileges)))
+    let owner = owner_gives(hits, named);
+    let added = privileges_give(privileges);
+    Rights(list.0 | (owner.0 | added.0))
 }

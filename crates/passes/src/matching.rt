@@ -1,11 +1,8 @@
-// Which identities match, and who stands in for the two virtual ones.
+// Which identities match: those of a crowd, and the two virtual ones.
 ghost use mathlib.Core.Path.{_≡_};
-ghost use Rattle.base.specs.Bytes.{same};
-ghost use Rattle.lists.specs.Sid.{ownerRights};
-ghost use Rattle.tokens.specs.Crowd.{crowdAt};
-ghost use Rattle.tokens.specs.TokenRules.{virtual};
+ghost use Rattle.records.specs.Crowd.{crowdAt};
 ghost use Rattle.passes.specs.Matching.{among, side};
-ghost use Rattle.passes.specs.OneWalk.{answered};
+ghost use Rattle.passes.specs.OneWalk.{virtualMatches};
 use crate::seats::first_seat;
 use crate::seats::seat_at;
 use crate::seats::sits;
@@ -22,49 +19,27 @@ pub struct Hits {
     pub me: Hit,
 }
 
-// S-1-3-4, owner rights, and S-1-5-10, the object itself.
-const OWNER_RIGHTS: [u8; 12] = [1, 1, 0, 0, 0, 0, 0, 3, 4, 0, 0, 0];
-
-const PRINCIPAL_SELF: [u8; 12] = [1, 1, 0, 0, 0, 0, 0, 5, 10, 0, 0, 0];
-
 // Whether a SID matches one of the crowd at a place of a listing.
 pub fn among(listing: &[u8], at: usize, attrs: bool, w: &[u8], allow: bool) -> bool
     ensures { λ r. ⌜ r ≡ among allow (crowdAt attrs (now (listing .entry)) at) (now (w .entry)) ⌝ }
 {
     let mut seat = first_seat(listing, at);
     let mut left = base::u32_at(listing, seat.to);
-    loop {
+    // "The search through a token stops at the first listing that matches."
+    let hit = 'search: loop {
         if seat.to == 0 {
-            return false;
+            break 'search false;
         }
         if sits(listing, seat, w, allow) {
-            return true;
+            break 'search true;
         }
         if left == 0 {
-            return false;
+            break 'search false;
         }
         left -= 1;
         seat = seat_at(listing, seat.next, attrs);
-    }
-}
-
-// Whether a SID is S-1-3-4.
-pub fn is_owner_rights(w: &[u8]) -> bool
-    ensures { λ r. ⌜ r ≡ same (now (w .entry)) ownerRights ⌝ }
-{
-    let owner = OWNER_RIGHTS;
-    base::same(w, &owner)
-}
-
-// Whether a SID is one of the two virtual identities.
-pub fn is_virtual(w: &[u8]) -> bool
-    ensures { λ r. ⌜ r ≡ virtual (now (w .entry)) ⌝ }
-{
-    if is_owner_rights(w) {
-        return true;
-    }
-    let itself = PRINCIPAL_SELF;
-    base::same(w, &itself)
+    };
+    hit
 }
 
 // The side of a hit that is asked for.
@@ -78,10 +53,10 @@ fn facing(h: Hit, allow: bool) -> bool
 }
 
 // How a virtual identity matches: S-1-3-4 as the owner does, S-1-5-10 as the self identity does.
-pub fn answered(w: &[u8], hits: Hits, allow: bool) -> bool
-    ensures { λ r. ⌜ r ≡ answered allow hits (now (w .entry)) ⌝ }
+pub(crate) fn virtual_matches(w: &[u8], hits: Hits, allow: bool) -> bool
+    ensures { λ r. ⌜ r ≡ virtualMatches allow hits (now (w .entry)) ⌝ }
 {
-    if is_owner_rights(w) {
+    if lists::is_owner_rights(w) {
         let owner = hits.owner;
         return facing(owner, allow);
     }

@@ -4,8 +4,8 @@ ghost use mathlib.Core.Bool.{cond};
 ghost use Prim.Native.Nat.{_≤_};
 ghost use lib.ListN.{length};
 ghost use Rattle.passes.specs.Seats.{allowWord, denyWord, noSeat, onward};
-ghost use Rattle.passes.specs.Seats.{firstSeat, seatAt, sits, Inside};
-use tokens::Attributes;
+ghost use Rattle.passes.specs.Seats.{firstSeat, seatAt, sits, SeatLies};
+use records::Attributes;
 
 // An identity of a listing: its SID stands from `from` to `to`, and `next` is the place after what
 // belongs to it. All 0 where no SID stands.
@@ -60,9 +60,9 @@ fn no_seat() -> Seat
 }
 
 // The first identity of a crowd, which a count follows.
-pub fn first_seat(s: &[u8], at: usize) -> Seat
+pub(crate) fn first_seat(s: &[u8], at: usize) -> Seat
     ensures { λ r. ⌜ r ≡ firstSeat (now (s .entry)) at ⌝ }
-    ensures { λ r. ⌜ Inside (length (now (s .entry))) r ⌝ }
+    ensures { λ r. ⌜ SeatLies (length (now (s .entry))) r ⌝ }
 {
     let e = lists::sid_end(s, at);
     if e == 0 {
@@ -79,9 +79,9 @@ pub fn first_seat(s: &[u8], at: usize) -> Seat
 }
 
 // The member at a place: with an attribute word after it where `attrs`, else for both.
-pub fn seat_at(s: &[u8], at: usize, attrs: bool) -> Seat
+pub(crate) fn seat_at(s: &[u8], at: usize, attrs: bool) -> Seat
     ensures { λ r. ⌜ r ≡ seatAt attrs (now (s .entry)) at ⌝ }
-    ensures { λ r. ⌜ Inside (length (now (s .entry))) r ⌝ }
+    ensures { λ r. ⌜ SeatLies (length (now (s .entry))) r ⌝ }
 {
     let e = lists::sid_end(s, at);
     if e == 0 {
@@ -119,7 +119,7 @@ fn ready(x: Seat, allow: bool) -> bool
 }
 
 // Whether the identity in a seat of the listing is the SID, and matches.
-pub fn sits(listing: &[u8], x: Seat, w: &[u8], allow: bool) -> bool
+pub(crate) fn sits(listing: &[u8], x: Seat, w: &[u8], allow: bool) -> bool
     requires { ⌜ (x .from ≤ x .to) × (x .to ≤ length (now listing)) ⌝ }
     ensures { λ r. ⌜ r ≡ sits allow (now (listing .entry)) x (now (w .entry)) ⌝ }
 {

@@ -1,11 +1,10 @@
 // How the owner and the self identity stand in for the two virtual identities.
 ghost use mathlib.Core.Path.{_≡_};
-ghost use Rattle.tokens.specs.Crowd.{crowdAt};
+ghost use Rattle.records.specs.Crowd.{crowdAt};
 ghost use Rattle.passes.specs.Matching.{stands, hitOf, hitsOf};
 use crate::matching::Hit;
 use crate::matching::Hits;
 use crate::matching::among;
-use crate::matching::is_virtual;
 
 // Whether an identity stands in for a virtual one. An empty one does not, nor a virtual one.
 fn stands(listing: &[u8], at: usize, attrs: bool, w: &[u8], allow: bool) -> bool
@@ -14,7 +13,7 @@ fn stands(listing: &[u8], at: usize, attrs: bool, w: &[u8], allow: bool) -> bool
     if w.len() == 0 {
         return false;
     }
-    if is_virtual(w) {
+    if lists::is_virtual(w) {
         return false;
     }
     among(listing, at, attrs, w, allow)

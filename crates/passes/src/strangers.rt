@@ -1,7 +1,7 @@
 // A table that dismisses strangers without a search through the token.
 ghost use mathlib.Core.Path.{_≡_};
 ghost use Prim.Native.Nat.{_<_};
-ghost use Rattle.tokens.specs.Crowd.{crowdAt};
+ghost use Rattle.records.specs.Crowd.{crowdAt};
 ghost use Rattle.passes.specs.Marks.{keyOf, unmarked, marksOf, dismissed};
 use crate::seats::first_seat;
 use crate::seats::seat_at;
@@ -53,7 +53,7 @@ pub fn marks(listing: &[u8], at: usize, attrs: bool) -> [u8; 4096]
 }
 
 // Whether the table has no mark for a SID: then it is a stranger's.
-pub fn dismissed(table: &[u8; 4096], w: &[u8]) -> bool
+pub(crate) fn dismissed(table: &[u8; 4096], w: &[u8]) -> bool
     ensures { λ r. ⌜ r ≡ dismissed (now (table .entry)) (now (w .entry)) ⌝ }
 {
     let k = key(w);

@@ -4,20 +4,18 @@ ghost use mathlib.Core.Bool.{_||_};
 ghost use Rattle.base.specs.Bytes.{same};
 ghost use Rattle.lists.specs.Sid.{ownerRights};
 ghost use Rattle.lists.specs.Acl.{entriesOf};
-ghost use Rattle.tokens.specs.Crowd.{crowdAt};
+ghost use Rattle.records.specs.Crowd.{crowdAt};
 ghost use Rattle.passes.specs.Marks.{kept};
 ghost use Rattle.passes.specs.OneWalk.{walkedOf};
-use crate::masks::entry_mask;
 use crate::matching::Hits;
-use crate::matching::answered;
-use crate::matching::is_owner_rights;
-use crate::matching::is_virtual;
+use crate::matching::virtual_matches;
 use crate::seats::first_seat;
 use crate::seats::seat_at;
 use crate::seats::sits;
 use crate::strangers::dismissed;
-use crate::tally::Tally;
 use lists::Rights;
+use masks::Tally;
+use masks::entry_mask;
 
 // What the pass allows, and whether some entry names S-1-3-4.
 pub struct Walked {
@@ -32,7 +30,7 @@ fn names(before: bool, w: &[u8]) -> bool
     if before {
         return true;
     }
-    is_owner_rights(w)
+    lists::is_owner_rights(w)
 }
 
 // The pass of a list against the crowd at a place of a listing: each entry in stored order, each
@@ -77,8 +75,8 @@ pub fn pass(
             continue 'entries;
         }
         let allow = e.kind == 0;
-        if is_virtual(who) {
-            t = t.step(answered(who, hits, allow), allow, mask);
+        if lists::is_virtual(who) {
+            t = t.step(virtual_matches(who, hits, allow), allow, mask);
             continue 'entries;
         }
         // "The search through a token stops at the first listing that matches."

@@ -4,7 +4,8 @@ use Prim.Native.Nat.{ℕ}
 use mathlib.Core.Path.{_≡_, ap}
 use mathlib.Core.List.{List}
 use lib.Seq.{sets}
-use Rattle.tokens.specs.Converters.{Conversion, answered}
+use Rattle.records.specs.Converters.{Conversion}
+use Rattle.tokens.specs.Answers.{answered}
 use Rattle.tokens.specs.declared.Converted.{Converted}
 use Rattle.access.specs.declared.answer.Answer.{Answer}
 use Rattle.pirasteh.specs.Told.{Told, Handed}

@@ -5,7 +5,7 @@ use mathlib.Core.List.{List}
 use mathlib.Core.Bool.{cond}
 use lib.ListN.{length}
 use lib.Seq.{sets}
-use Rattle.tokens.specs.Converters.{Conversion}
+use Rattle.records.specs.Converters.{Conversion}
 use Rattle.access.specs.declared.answer.Answer.{Answer}
 
 -- the result r, and the three lent numbers as the function leaves them: g, a and s. On refusal the answer's mask is 0 and its flags are clear

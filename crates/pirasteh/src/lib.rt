@@ -3,7 +3,7 @@
 ghost use mathlib.Core.Path.{_≡_};
 ghost use mathlib.Core.Bool.{cond};
 ghost use lib.ListN.{length};
-ghost use Rattle.tokens.specs.Converters.{asListing, asRecord, fitted};
+ghost use Rattle.records.specs.Converters.{asListing, asRecord, fitted};
 ghost use Rattle.access.specs.Status.{checked};
 ghost use Rattle.access.specs.QuestionFile.{fileAnswer};
 ghost use Rattle.pirasteh.specs.Told.{Told, Handed};

@@ -10,8 +10,8 @@ use borrow.Author.Tests.{lt-ltb, le-ltb, eq-eqb, ne-eqb}
 use Rattle.lists.specs.declared.acl.Scan.{Scan}
 use Rattle.lists.specs.declared.acl.Scan.the-variants.{Broken}
 use Rattle.policy.specs.Policy.{sectionAt, bytesOf, aclSection, maybeAcl, broken, alien, noRule, Placed, ruleOf, ruleAt}
-use Rattle.policy.specs.declared.shape.Section.{Section}
-use Rattle.policy.specs.declared.shape.Rule.{Rule}
+use Rattle.policy.specs.declared.sections.Section.{Section}
+use Rattle.policy.specs.declared.one_rule.Rule.{Rule}
 
 -- what a section holds, broken where it does not fit
 abbrev pub listIn : List ℕ → Section → Scan

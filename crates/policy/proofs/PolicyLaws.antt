@@ -1,6 +1,6 @@
 -- What an accepted policy is. In order: a rule that is well shaped (shaped-rule), and found by its sections alone (step-same); plain lists
 -- (acl-plain, plain-rule); the rules of an accepted policy: each is there and has plain lists (sound-rules), there are as many as the
--- heading says (sound-count), and they are found by the lengths of their sections alone (sound-found). Assumes nothing.
+-- heading says (sound-count), and they are found by the lengths of their sections alone (sound-by-lengths). Assumes nothing.
 use Prim.Native.Nat.{ℕ, zero, suc, _-_}
 use mathlib.Core.Path.{_≡_, refl, sym, ap, _∙_}
 use mathlib.Core.List.{List, [], _∷_}
@@ -14,12 +14,12 @@ use Rattle.base.proofs.WordsLaws.{u32-at-out}
 use Rattle.lists.specs.Acl.{aclEnd, scanOf}
 use Rattle.lists.specs.declared.acl.Scan.{Scan}
 use Rattle.lists.specs.declared.acl.Scan.the-variants.{Broken, Foreign, Plain}
-use Rattle.policy.specs.Policy.{section, sectionAt, bytesOf, aclSection, maybeAcl, broken, alien, noRule, ruleOf, ruleAt}
+use Rattle.policy.specs.Policy.{sectionAt, bytesOf, aclSection, maybeAcl, broken, alien, noRule, ruleOf, ruleAt}
 use Rattle.policy.specs.Policy.{rulesShaped, rulesUnread, standing, standingOf}
 use Rattle.policy.specs.Rules.{Lists, listsOf, rulesAt, rulesOf}
-use Rattle.policy.specs.Found.{stepAt, foundAt, foundOf}
-use Rattle.policy.specs.declared.shape.Section.{Section}
-use Rattle.policy.specs.declared.shape.Rule.{Rule}
+use Rattle.policy.specs.ByLengths.{ruleByLengths, rulesByLengthsAt, rulesByLengths}
+use Rattle.policy.specs.declared.sections.Section.{Section}
+use Rattle.policy.specs.declared.one_rule.Rule.{Rule}
 use Rattle.policy.specs.declared.shape.Standing.the-variants.{Sound, Misshapen}
 use Rattle.policy.proofs.OneRuleSteps.{listIn, maybeIn, made, rule-unfit, rule-long, rule-dacl, rule-sacl}
 use Rattle.policy.proofs.OneRuleSteps.{rule-staged, rule-last, rule-whole}
@@ -71,8 +71,8 @@ module _ (s : List ℕ) (applies dacl sacl staged last : Section) where
 
 -- the sections alone find the same rule
 pub step-same : (s : List ℕ) (at : ℕ) → (ruleAt s at .next ≡ 0 → ⊥) →
-    (stepAt s at .next ≡ ruleAt s at .next) × (listsOf s (stepAt s at) ≡ listsOf s (ruleAt s at))
-unfolding ruleAt stepAt
+    (ruleByLengths s at .next ≡ ruleAt s at .next) × (listsOf s (ruleByLengths s at) ≡ listsOf s (ruleAt s at))
+unfolding ruleAt ruleByLengths
 step-same s at h =
     let applies = sectionAt s at in
     let dacl = sectionAt s (applies .to) in
@@ -201,8 +201,8 @@ unfolding rulesAt PlainRules
 plain-count s zero at h = refl
 plain-count s (suc n) at h = rw (ne-eqb (ruleAt s at .next) 0 (h .0 .there)) (ap suc (plain-count s n (ruleAt s at .next) (h .1)))
 
-plain-found : (s : List ℕ) (n at : ℕ) → PlainRules s n at → foundAt s n at ≡ rulesAt s n at
-unfolding foundAt rulesAt PlainRules
+plain-found : (s : List ℕ) (n at : ℕ) → PlainRules s n at → rulesByLengthsAt s n at ≡ rulesAt s n at
+unfolding rulesByLengthsAt rulesAt PlainRules
 plain-found s zero at h = refl
 plain-found s (suc n) at h =
     let e = step-same s at (h .0 .there) in
@@ -222,5 +222,5 @@ module _ (s : List ℕ) (sound : standingOf s ≡ Sound) where
   pub sound-count : length (rulesOf s) ≡ u32At s 1
   sound-count = ap length (rules-are s) ∙ plain-count s (u32At s 1) 5 (sound-rules s sound)
 
-  pub sound-found : foundOf s ≡ rulesOf s
-  sound-found = plain-found s (u32At s 1) 5 (sound-rules s sound) ∙ sym (rules-are s)
+  pub sound-by-lengths : rulesByLengths s ≡ rulesOf s
+  sound-by-lengths = plain-found s (u32At s 1) 5 (sound-rules s sound) ∙ sym (rules-are s)

@@ -10,7 +10,7 @@ use lib.ListN.{length}
 use borrow.Author.Tests.{lt-ltb, le-ltb, eq-eqb, ne-eqb}
 use Rattle.base.specs.Bytes.{byteAt, u32At}
 use Rattle.policy.specs.Policy.{ruleAt, rulesShaped, rulesUnread, standing, standingOf}
-use Rattle.policy.specs.declared.shape.Rule.{Rule}
+use Rattle.policy.specs.declared.one_rule.Rule.{Rule}
 use Rattle.policy.specs.declared.shape.Standing.{Standing}
 use Rattle.policy.specs.declared.shape.Standing.the-variants.{Sound, Misshapen, Unread}
 

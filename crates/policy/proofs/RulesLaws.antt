@@ -1,6 +1,6 @@
 -- What the rules of a policy come to. In order: rules after rules (ruled-append); bit by bit, what is left (left-bit, left-bit-all) and
 -- where staging differs (differ-bit); one rule more never adds a bit (ruled-within); masks of 32 bits (ruled-left-lt, result-lt,
--- ruled-differ-lt); a table that keeps every result keeps what the rules leave (ruled-kept, ruled-found), as the table of the same crowd
+-- ruled-differ-lt); a table that keeps every result keeps what the rules leave (ruled-kept, ruled-by-lengths), as the table of the same crowd
 -- does (ruled-marked). Assumes nothing.
 use Prim.Native.Nat.{ℕ, _^_, _<_, _≤_}
 use mathlib.Core.Path.{_≡_, refl, sym, ap, ap₂, _∙_}
@@ -10,41 +10,31 @@ use native.Mathlib.Omega.{arith}
 use lib.Bits as B
 use Rattle.base.specs.Bits.{and, or, differ, has, bit, Within}
 use Rattle.base.proofs.BitLaws as base
+use Rattle.base.proofs.BoolLaws.{and-true, or-false, or-assoc}
 use Rattle.lists.specs.Acl.{Entry}
-use Rattle.tokens.specs.Crowd.{Member}
+use Rattle.records.specs.Crowd.{Member}
 use Rattle.passes.specs.Confinement.{everything}
 use Rattle.passes.specs.Marks.{kept, marksOf}
-use Rattle.passes.specs.KindsAndMasks.{systemSecurity}
-use Rattle.passes.specs.OnePass.{emptied, passed}
+use Rattle.masks.specs.KindsAndMasks.{systemSecurity}
+use Rattle.masks.specs.TheTally.{emptied}
+use Rattle.passes.specs.OnePass.{passed}
 use Rattle.passes.specs.NormalEvaluation.{namesOwner, ownerGives, privilegesGive, normalOf}
 use Rattle.passes.proofs.OnePassLaws.{passed-lt}
 use Rattle.passes.proofs.MarksLaws.{run-kept, names-kept}
 use Rattle.passes.specs.declared.matching.Hits.{Hits}
-use Rattle.passes.specs.declared.tally.Tally.{Tally}
+use Rattle.masks.specs.declared.tally.Tally.{Tally}
 use Rattle.policy.specs.Policy.{standingOf}
 use Rattle.policy.specs.Rules.{Lists, rulesOf, resultOf, ruled, judgedBy, ruledFrom, ruledBy, everyRule, someStage}
-use Rattle.policy.specs.Found.{foundOf, keptLists, keptRules}
+use Rattle.policy.specs.ByLengths.{rulesByLengths, keptLists, keptRules}
 use Rattle.policy.specs.declared.rules.Ruled.{Ruled}
 use Rattle.policy.specs.declared.shape.Standing.the-variants.{Sound}
-use Rattle.policy.proofs.PolicyLaws.{sound-found}
+use Rattle.policy.proofs.PolicyLaws.{sound-by-lengths}
 
 -- ---- tests
-
-and-true : (b : Bool) → b ≡ (b && true)
-and-true true = refl
-and-true false = refl
 
 and-assoc : (a b c : Bool) → ((a && b) && c) ≡ (a && (b && c))
 and-assoc true b c = refl
 and-assoc false b c = refl
-
-or-false : (b : Bool) → b ≡ (b || false)
-or-false true = refl
-or-false false = refl
-
-or-assoc : (a b c : Bool) → ((a || b) || c) ≡ (a || (b || c))
-or-assoc true b c = refl
-or-assoc false b c = refl
 
 -- a test that may be left out holds no less often without
 and-skip : (a b c : Bool) → (a && (b && c)) ≡ true → (a && c) ≡ true
@@ -71,7 +61,7 @@ module _ (kind : ℕ) (ms : List Member) (h : Hits) (p : ℕ) where
   pub left-bit : (st : Ruled) (rs : List Lists) (i : ℕ) →
       bit (ruledFrom kind ms h p st rs .left .0) i ≡ (bit (st .left .0) i && everyRule kind ms h p rs i)
   unfolding ruledFrom everyRule judgedBy
-  left-bit st [] i = and-true (bit (st .left .0) i)
+  left-bit st [] i = sym (and-true (bit (st .left .0) i))
   left-bit st (r ∷ rs) i =
       left-bit (judgedBy kind ms h p st r) rs i
       ∙ ap (λ (b : Bool). b && everyRule kind ms h p rs i) (base.and-bit (st .left .0) (resultOf kind ms h p (r .effective)) i)
@@ -108,7 +98,7 @@ module _ (kind : ℕ) (ms : List Member) (h : Hits) (p : ℕ) where
   pub differ-bit : (st : Ruled) (rs : List Lists) (i : ℕ) →
       bit (ruledFrom kind ms h p st rs .differ .0) i ≡ (bit (st .differ .0) i || someStage kind ms h p rs i)
   unfolding ruledFrom someStage
-  differ-bit st [] i = or-false (bit (st .differ .0) i)
+  differ-bit st [] i = sym (or-false (bit (st .differ .0) i))
   differ-bit st (r ∷ rs) i = differ-bit (judgedBy kind ms h p st r) rs i ∙ differ-step st r i (someStage kind ms h p rs i)
 
   -- ---- one rule more never adds a bit
@@ -176,9 +166,9 @@ module _ (kind : ℕ) (ms : List Member) (h : Hits) (p : ℕ) where
         ∙ ruled-kept (judgedBy kind ms h p st r) rs
 
     -- what the code finds of an accepted policy
-    pub ruled-found : (s : List ℕ) → standingOf s ≡ Sound →
-        ruledBy kind ms h p (keptRules table (foundOf s)) ≡ ruledBy kind ms h p (rulesOf s)
-    ruled-found s sound = ruled-kept (ruled everything 0) (foundOf s) ∙ ap (ruledBy kind ms h p) (sound-found s sound)
+    pub ruled-by-lengths : (s : List ℕ) → standingOf s ≡ Sound →
+        ruledBy kind ms h p (keptRules table (rulesByLengths s)) ≡ ruledBy kind ms h p (rulesOf s)
+    ruled-by-lengths s sound = ruled-kept (ruled everything 0) (rulesByLengths s) ∙ ap (ruledBy kind ms h p) (sound-by-lengths s sound)
 
   -- ---- the table of the same crowd
 
@@ -192,5 +182,5 @@ module _ (kind : ℕ) (ms : List Member) (h : Hits) (p : ℕ) where
 
   -- `ruled_by`, of an accepted policy and with the table of its crowd, answers what the page says
   pub ruled-marked : (s : List ℕ) → standingOf s ≡ Sound →
-      ruledBy kind ms h p (keptRules (marksOf ms) (foundOf s)) ≡ ruledBy kind ms h p (rulesOf s)
-  ruled-marked = ruled-found (marksOf ms) result-kept
+      ruledBy kind ms h p (keptRules (marksOf ms) (rulesByLengths s)) ≡ ruledBy kind ms h p (rulesOf s)
+  ruled-marked = ruled-by-lengths (marksOf ms) result-kept

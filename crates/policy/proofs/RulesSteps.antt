@@ -9,23 +9,23 @@ use native.Mathlib.Omega.{arith}
 use borrow.Author.Tests.{eq-eqb, ne-eqb}
 use Rattle.base.specs.Bits.{and, or, differ}
 use Rattle.lists.specs.Acl.{Entry}
-use Rattle.tokens.specs.Crowd.{Member}
+use Rattle.records.specs.Crowd.{Member}
 use Rattle.passes.specs.NormalEvaluation.{normalOf}
 use Rattle.passes.specs.OneWalk.{walkedOf, normalBy}
 use Rattle.passes.specs.declared.matching.Hits.{Hits}
 use Rattle.passes.specs.declared.walk.Walked.{Walked}
 use Rattle.policy.specs.Policy.{sectionAt}
 use Rattle.policy.specs.Rules.{Lists, listsOf, resultOf, ruled, judgedBy, ruledFrom}
-use Rattle.policy.specs.Found.{stepAt, foundAt, keptLists, keptRules}
-use Rattle.policy.specs.declared.shape.Section.{Section}
-use Rattle.policy.specs.declared.shape.Rule.{Rule}
+use Rattle.policy.specs.ByLengths.{ruleByLengths, rulesByLengthsAt, keptLists, keptRules}
+use Rattle.policy.specs.declared.sections.Section.{Section}
+use Rattle.policy.specs.declared.one_rule.Rule.{Rule}
 use Rattle.policy.specs.declared.rules.Ruled.{Ruled}
 
 -- a rule, from its sections as the code reads them
 pub step-read : (s : List ℕ) (at : ℕ) (applies dacl sacl staged last : Section) → applies ≡ sectionAt s at →
     dacl ≡ sectionAt s (applies .to) → sacl ≡ sectionAt s (dacl .to) → staged ≡ sectionAt s (sacl .to) → last ≡ sectionAt s (staged .to) →
-    _≡_ {A = Rule} (record { next = last .to; unread = false; effective = dacl; staged = staged }) (stepAt s at)
-unfolding stepAt
+    _≡_ {A = Rule} (record { next = last .to; unread = false; effective = dacl; staged = staged }) (ruleByLengths s at)
+unfolding ruleByLengths
 step-read s at applies dacl sacl staged last a d x t y = rw (y, t, x, d, a)
 
 module _ (kind : ℕ) (ms : List Member) (h : Hits) (p : ℕ) where
@@ -51,21 +51,21 @@ module _ (kind : ℕ) (ms : List Member) (h : Hits) (p : ℕ) where
   module _ (table s : List ℕ) where
     -- what m rules from a place come to, after those before
     abbrev pub Left : Ruled → ℕ → ℕ → Ruled
-    Left st m at = ruledFrom kind ms h p st (keptRules table (foundAt s m at))
+    Left st m at = ruledFrom kind ms h p st (keptRules table (rulesByLengthsAt s m at))
 
     module _ (st : Ruled) (m k at : ℕ) where
       pub left-end : m ≤ k → Left st (m - k) at ≡ st
-      unfolding foundAt keptRules ruledFrom
+      unfolding rulesByLengthsAt keptRules ruledFrom
       left-end l = let z : m - k ≡ 0 = omega arith in rw z
 
-      pub left-stop : (r : Rule) → k < m → r ≡ stepAt s at → r .next ≡ 0 → Left st (m - k) at ≡ st
-      unfolding foundAt keptRules ruledFrom
+      pub left-stop : (r : Rule) → k < m → r ≡ ruleByLengths s at → r .next ≡ 0 → Left st (m - k) at ≡ st
+      unfolding rulesByLengthsAt keptRules ruledFrom
       left-stop r l e f = let n : m - k ≡ suc (m - (k + 1)) = omega arith in rw (n, ← e, eq-eqb (r .next) 0 f)
 
       -- one rule more, as the code reads and judges it
-      pub left-more : (r : Rule) (next : Ruled) → k < m → r ≡ stepAt s at → (r .next ≡ 0 → ⊥) →
+      pub left-more : (r : Rule) (next : Ruled) → k < m → r ≡ ruleByLengths s at → (r .next ≡ 0 → ⊥) →
           next ≡ judgedBy kind ms h p st (keptLists table (listsOf s r)) → Left st (m - k) at ≡ Left next (m - (k + 1)) (r .next)
-      unfolding foundAt keptRules ruledFrom
+      unfolding rulesByLengthsAt keptRules ruledFrom
       left-more r next l e f g =
           let n : m - k ≡ suc (m - (k + 1)) = omega arith in
           rw (n, ← e, ne-eqb (r .next) 0 f, g)

@@ -11,7 +11,7 @@ use Rattle.base.specs.Bytes.{u32At}
 use Rattle.lists.specs.Acl.{aclEnd, scanOf}
 use Rattle.lists.specs.declared.acl.Scan.the-variants.{Broken, Plain}
 use Rattle.policy.specs.Policy.{section, sectionAt, Lies, aclSection, maybeAcl}
-use Rattle.policy.specs.declared.shape.Section.{Section}
+use Rattle.policy.specs.declared.sections.Section.{Section}
 
 -- ---- a section
 

@@ -2,4 +2,4 @@
 pub mod Policy
 pub mod Rules
 -- how the code goes about it: the rules found again, without a second look at their lists' shape
-pub mod Found
+pub mod ByLengths

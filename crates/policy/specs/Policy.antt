@@ -2,17 +2,17 @@
 -- applies_to (at most 65,536), effective DACL (not empty), effective SACL, staged DACL, staged SACL. An ACL section's length equals its
 -- ACL's size. Nothing follows. An empty policy means none."
 use Prim.Native.Nat.{ℕ, zero, suc, _+_, _-_, _≤_}
-use mathlib.Core.List.{List, [], _∷_}
-use mathlib.Core.Bool.{Bool, true, false, cond, not, _&&_, _||_}
+use mathlib.Core.List.{List}
+use mathlib.Core.Bool.{Bool, true, false, cond, _||_}
 use lib.ListN.{length}
-use lib.Dec.{ltb, leb, eqb}
+use lib.Dec.{ltb, eqb}
 use Rattle.base.specs.Bytes.{byteAt, u32At, part}
-use Rattle.lists.specs.Acl.{Entry, aclEnd, scanOf, entriesOf}
+use Rattle.lists.specs.Acl.{aclEnd, scanOf}
 use Rattle.lists.specs.declared.acl.Scan.{Scan}
 use Rattle.lists.specs.declared.acl.Scan.the-variants.{Broken, Foreign, Plain}
-use Rattle.policy.specs.declared.shape.Section.{Section}
-use Rattle.policy.specs.declared.shape.Rule as rule
-use Rattle.policy.specs.declared.shape.Rule.{Rule}
+use Rattle.policy.specs.declared.sections.Section.{Section}
+use Rattle.policy.specs.declared.one_rule.Rule as rule
+use Rattle.policy.specs.declared.one_rule.Rule.{Rule}
 use Rattle.policy.specs.declared.shape.Standing.{Standing}
 use Rattle.policy.specs.declared.shape.Standing.the-variants.{Sound, Misshapen, Unread}
 

@@ -1,6 +1,6 @@
 -- "A rule's result is normal evaluation with its DACL for the descriptor's, same owner, without confinement. The SACL sections are checked
 -- for shape and otherwise unused." "Staging flag: some rule with a staged DACL whose effective and staged results differ on asked bits."
-use Prim.Native.Nat.{ℕ, zero, suc, _+_}
+use Prim.Native.Nat.{ℕ, zero, suc}
 use mathlib.Core.List.{List, [], _∷_}
 use mathlib.Core.Bool.{Bool, true, false, cond, xor, _&&_, _||_}
 use lib.ListN.{length}
@@ -8,12 +8,12 @@ use lib.Dec.{ltb, eqb}
 use Rattle.base.specs.Bytes.{u32At}
 use Rattle.base.specs.Bits.{and, or, differ, bit}
 use Rattle.lists.specs.Acl.{Entry, entriesOf}
-use Rattle.tokens.specs.Crowd.{Member}
+use Rattle.records.specs.Crowd.{Member}
 use Rattle.passes.specs.NormalEvaluation.{normalOf, listed}
 use Rattle.passes.specs.Confinement.{everything}
 use Rattle.passes.specs.declared.matching.Hits.{Hits}
 use Rattle.policy.specs.Policy.{bytesOf, ruleAt}
-use Rattle.policy.specs.declared.shape.Rule.{Rule}
+use Rattle.policy.specs.declared.one_rule.Rule.{Rule}
 use Rattle.policy.specs.declared.rules.Ruled.{Ruled}
 
 -- what a rule says: its effective list, whether it has a staged one, and that

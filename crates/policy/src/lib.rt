@@ -5,9 +5,9 @@ mod rules;
 mod sections;
 mod shape;
 
+pub use one_rule::Rule;
 pub use rules::Ruled;
 pub use rules::ruled_by;
-pub use shape::Rule;
-pub use shape::Section;
+pub use sections::Section;
 pub use shape::Standing;
 pub use shape::judge_policy;

@@ -3,14 +3,22 @@ ghost use mathlib.Core.Path.{_≡_};
 ghost use mathlib.Core.Bool.{_||_};
 ghost use lib.Dec.{ltb};
 ghost use Rattle.policy.specs.Policy.{Lies, alien, noRule, Placed, ruleOf, ruleAt};
+use crate::sections::Section;
 use crate::sections::is_alien;
 use crate::sections::is_broken;
 use crate::sections::list_in;
 use crate::sections::maybe_in;
 use crate::sections::section_at;
-use crate::shape::Rule;
-use crate::shape::Section;
 use lists::Scan;
+
+// A rule: the place after it (0: misshapen), whether it holds what is not read in this edition, and
+// where its two access lists stand.
+pub struct Rule {
+    pub next: usize,
+    pub unread: bool,
+    pub effective: Section,
+    pub staged: Section,
+}
 
 // Whether a rule holds what is not read in this edition: bytes of applies_to, or a foreign entry.
 fn is_unread(applies: Section, effective: Scan, staged: Scan) -> bool
@@ -84,7 +92,7 @@ fn rule_of(
 }
 
 // The rule at a place: applies_to, effective DACL, effective SACL, staged DACL, staged SACL.
-pub fn rule_at(s: &[u8], at: usize) -> Rule
+pub(crate) fn rule_at(s: &[u8], at: usize) -> Rule
     ensures { λ r. ⌜ r ≡ ruleAt (now (s .entry)) at ⌝ }
     ensures { λ r. ⌜ Placed (now (s .entry)) r ⌝ }
 {

@@ -3,14 +3,16 @@
 ghost use mathlib.Core.Path.{_≡_};
 ghost use mathlib.Core.Bool.{true};
 ghost use Rattle.lists.specs.Acl.{entriesOf};
-ghost use Rattle.tokens.specs.Crowd.{crowdAt};
+ghost use Rattle.records.specs.Crowd.{crowdAt};
 ghost use Rattle.passes.specs.Marks.{kept};
 ghost use Rattle.policy.specs.Policy.{Placed};
 ghost use Rattle.policy.specs.Rules.{listsOf, resultOf, judgedBy, ruledBy};
-ghost use Rattle.policy.specs.Found.{stepAt, foundOf, keptLists, keptRules};
+ghost use Rattle.policy.specs.ByLengths.{ruleByLengths, rulesByLengths};
+ghost use Rattle.policy.specs.ByLengths.{keptLists, keptRules};
+use crate::one_rule::Rule;
 use crate::sections::section_at;
-use crate::shape::Rule;
 use lists::Rights;
+use masks::Tally;
 use passes::Hits;
 
 // The bits left, and those on which effective and staged results differ.
@@ -19,14 +21,9 @@ pub struct Ruled {
     pub differ: Rights,
 }
 
-// Before the first rule every bit is left.
-const EVERYTHING: u32 = 0xFFFFFFFF;
-
-const NOTHING: u32 = 0;
-
 // The rule at a place, by the lengths of its sections alone: its lists are not scanned.
-fn step_at(s: &[u8], at: usize) -> Rule
-    ensures { λ r. ⌜ r ≡ stepAt (now (s .entry)) at ⌝ }
+fn rule_by_lengths(s: &[u8], at: usize) -> Rule
+    ensures { λ r. ⌜ r ≡ ruleByLengths (now (s .entry)) at ⌝ }
     ensures { λ r. ⌜ Placed (now (s .entry)) r ⌝ }
 {
     let applies = section_at(s, at);
@@ -112,18 +109,19 @@ pub fn ruled_by(
 ) -> Ruled
     ensures { λ r. ⌜
         r ≡ ruledBy kind (crowdAt true (now (listing .entry)) at) hits privileges
-        (keptRules (now (table .entry)) (foundOf (now (s .entry))))
+        (keptRules (now (table .entry)) (rulesByLengths (now (s .entry))))
         ⌝ }
 {
     let n = base::u32_at(s, 1);
+    // Before the first rule every bit is left.
     let mut so_far = Ruled {
-        left: Rights(EVERYTHING),
-        differ: Rights(NOTHING),
+        left: Tally::EVERYTHING,
+        differ: Tally::NONE,
     };
     let mut place: usize = 5;
     let mut k: u32 = 0;
     while k < n {
-        let r = step_at(s, place);
+        let r = rule_by_lengths(s, place);
         let next = r.next;
         if next == 0 {
             return so_far;

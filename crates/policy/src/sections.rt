@@ -5,8 +5,13 @@ ghost use lib.Dec.{eqb};
 ghost use Rattle.lists.specs.declared.acl.Scan.the-variants.{Broken};
 ghost use Rattle.policy.specs.Policy.{section, sectionAt, bytesOf, Lies, aclSection};
 ghost use Rattle.policy.specs.Policy.{maybeAcl, broken, alien};
-use crate::shape::Section;
 use lists::Scan;
+
+// The bytes of a section, from a place up to another; both 0 where they do not fit.
+pub struct Section {
+    pub from: usize,
+    pub to: usize,
+}
 
 // No section.
 fn nowhere() -> Section
@@ -16,7 +21,7 @@ fn nowhere() -> Section
 }
 
 // The section whose length stands at `at`.
-pub fn section_at(s: &[u8], at: usize) -> Section
+pub(crate) fn section_at(s: &[u8], at: usize) -> Section
     ensures { λ r. ⌜ r ≡ sectionAt (now (s .entry)) at ⌝ }
     ensures { λ r. ⌜ Lies (now (s .entry)) r ⌝ }
 {
@@ -59,7 +64,7 @@ fn maybe_acl(l: &[u8], deep: bool) -> Scan
 }
 
 // What a section at its place holds: a list. Broken where the section does not fit.
-pub fn list_in(s: &[u8], x: Section) -> Scan
+pub(crate) fn list_in(s: &[u8], x: Section) -> Scan
     requires { ⌜ Lies (now s) x ⌝ }
     ensures { λ r. ⌜
         r ≡ cond (eqb (x .to) 0) Broken (aclSection true (bytesOf (now (s .entry)) x))
@@ -74,7 +79,7 @@ pub fn list_in(s: &[u8], x: Section) -> Scan
 }
 
 // What a section at its place holds: a list, or nothing. Broken where the section does not fit.
-pub fn maybe_in(s: &[u8], x: Section, deep: bool) -> Scan
+pub(crate) fn maybe_in(s: &[u8], x: Section, deep: bool) -> Scan
     requires { ⌜ Lies (now s) x ⌝ }
     ensures { λ r. ⌜
         r ≡ cond (eqb (x .to) 0) Broken (maybeAcl deep (bytesOf (now (s .entry)) x))
@@ -89,7 +94,7 @@ pub fn maybe_in(s: &[u8], x: Section, deep: bool) -> Scan
 }
 
 // Whether a list is misshapen.
-pub fn is_broken(x: Scan) -> bool
+pub(crate) fn is_broken(x: Scan) -> bool
     ensures { λ r. ⌜ r ≡ broken x ⌝ }
 {
     match x {
@@ -100,7 +105,7 @@ pub fn is_broken(x: Scan) -> bool
 }
 
 // Whether a well shaped list has an entry type other than 0 and 1.
-pub fn is_alien(x: Scan) -> bool
+pub(crate) fn is_alien(x: Scan) -> bool
     ensures { λ r. ⌜ r ≡ alien x ⌝ }
 {
     match x {

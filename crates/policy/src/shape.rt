@@ -11,21 +11,6 @@ pub enum Standing {
     Unread,
 }
 
-// The bytes of a section, from a place up to another; both 0 where they do not fit.
-pub struct Section {
-    pub from: usize,
-    pub to: usize,
-}
-
-// A rule: the place after it (0: misshapen), whether it holds what is not read in this edition, and
-// where its two access lists stand.
-pub struct Rule {
-    pub next: usize,
-    pub unread: bool,
-    pub effective: Section,
-    pub staged: Section,
-}
-
 // Whether one of the two holds.
 fn either(a: bool, b: bool) -> bool
     ensures { λ r. ⌜ r ≡ (a || b) ⌝ }

@@ -1,29 +1,35 @@
 -- What is promised, in the request's own words, and where it is proved: each proof here is one line that cites the work.
--- The words mean: `checked`, the answer to a question (access/specs/Status.antt); `conditions`, the table of status numbers line by
--- line, and `lowest` (Conditions.antt); `byRules`, the rules of document 01 with no word on refusals (Accepted.antt, Granted.antt);
--- `SameButStrangers`, `SameButOneRule` (Strangers.antt). The dummies that demand 2 shuts out: access/proofs/Dummies.antt.
--- Assumes nothing.
+-- The words mean: `checked`, the answer to a question (access/specs/Status.antt); `fileAnswer`, that to a question file (QuestionFile.antt);
+-- `byRules`, the rules of document 01 with no word on refusals; `conditions`, the table of status numbers line by line, and `lowest`;
+-- `conversionInto`, what a converter comes to in a buffer of so many bytes; `SameButStrangers`, `SameButOneRule` (demands/specs: Accepted,
+-- Conditions, Conversions, Strangers). The dummies that demand 2 shuts out: cards/proofs/Dummies.antt. Assumes nothing.
 use Prim.Native.Nat.{ℕ}
 use mathlib.Core.Path.{_≡_}
 use mathlib.Core.List.{List}
 use mathlib.Core.Bool.{true, false}
 use mathlib.Core.Logic.{_↔_}
+use lib.ListN.{length}
+use lib.Seq.{sets}
 use lib.Dec.{T}
 use lib.Pow.{areBytes}
 use Rattle.base.specs.Bits.{Within}
-use Rattle.tokens.specs.Converters.{asListing, asRecord, result}
-use Rattle.tokens.proofs.RoundTrip as round-trip
-use Rattle.passes.specs.KindsAndMasks.{asked}
+use Rattle.base.specs.Bytes.Read.{some}
+use Rattle.records.specs.Converters.{asListing, asRecord, result}
+use Rattle.records.proofs.RoundTrip as round-trip
+use Rattle.masks.specs.KindsAndMasks.{asked}
 use Rattle.access.specs.Status.{Question, checked}
-use Rattle.access.specs.QuestionFile.{fileAnswer}
-use Rattle.access.specs.Conditions.{conditions, lowest, some-holds, fileMisshapen}
-use Rattle.access.specs.Accepted.{Accepted, GrantsNothing, tokenIn, byRules}
-use Rattle.access.specs.Strangers.{SameButStrangers, SameButOneRule}
-use Rattle.access.proofs.StatusLaws as status
-use Rattle.access.proofs.FileLaws as file
-use Rattle.access.proofs.AcceptedLaws as accepted
-use Rattle.access.proofs.StrangersLaws as strangers
-use Rattle.access.proofs.GainLaws as gain
+use Rattle.access.specs.QuestionFile.{questionOf, fileAnswer}
+use Rattle.pirasteh.specs.Told.{Handed}
+use Rattle.demands.specs.Accepted.{Accepted, GrantsNothing, tokenIn, byRules}
+use Rattle.demands.specs.Conditions.{conditions, lowest, some-holds, fileMisshapen}
+use Rattle.demands.specs.Conversions.{Way, conversion, conversionInto, conversionConditions, Written, Untouched}
+use Rattle.demands.specs.Strangers.{SameButStrangers, SameButOneRule}
+use Rattle.demands.proofs.StatusLaws as status
+use Rattle.demands.proofs.FileLaws as file
+use Rattle.demands.proofs.ConverterLaws as converter
+use Rattle.demands.proofs.AcceptedLaws as accepted
+use Rattle.demands.proofs.StrangersLaws as strangers
+use Rattle.demands.proofs.GainLaws as gain
 use Rattle.access.proofs.check as check
 use Rattle.access.proofs.question as question
 use Rattle.tokens.proofs.to_listing as to-listing
@@ -33,56 +39,74 @@ use Rattle.pirasteh.proofs.pirasteh_question as c-question
 use Rattle.pirasteh.proofs.pirasteh_list as c-list
 use Rattle.pirasteh.proofs.pirasteh_pack as c-pack
 
--- ---- Demand 1. "Whatever bytes arrive, the check ends and touches nothing outside them."
-
--- Of the functions themselves: for all lent bytes the function ends, is safe, and returns and leaves what its contract says, which is
--- an equation with the definitions below. Contracts: access/src, `check` and `question`; tokens/src, `to_listing` and `to_record`.
+-- ---- Demand 1. "Whatever bytes arrive, it ends and touches nothing outside them."
+-- Of the functions themselves: for all lent bytes each ends, is safe, and returns and leaves what its contract says, an equation with the
+-- definitions below. Contracts: access/src, `check` and `question`; tokens/src, `to_listing` and `to_record`; pirasteh/src, for C and Rust.
 pub functions-met : {M : Type 1} → check.Statement.statement M × question.Statement.statement M × to-listing.Statement.statement M
     × to-record.Statement.statement M
 functions-met = (check.Met.met, question.Met.met, to-listing.Met.met, to-record.Met.met)
 
--- The same of the four functions that C and Rust call. Contracts: pirasteh/src.
 pub exports-met : {M : Type 1} → c-check.Statement.statement M × c-question.Statement.statement M × c-list.Statement.statement M
     × c-pack.Statement.statement M
 exports-met = (c-check.Met.met, c-question.Met.met, c-list.Met.met, c-pack.Met.met)
 
--- "Bad input is refused by the number that document 01 gives."
+-- "Bad input is refused by the number document 01 gives." Of a check, of a question file, of a converter: 3, 4 and 11 exactly when
 pub bad-input : (q : Question) → checked q .status ≡ lowest (conditions q)
 bad-input = status.status-is
 
 pub bad-file : (s : List ℕ) → fileAnswer s .status ≡ 12 ↔ fileMisshapen s ≡ true
 bad-file = file.file-12
 
--- "A refused check grants no right and sets no flag; a refused conversion writes no byte." The second half is in the contracts of
--- `to_listing` and `to_record`, above.
+pub bad-conversion : (room : ℕ) (way : Way) (s : List ℕ) → conversionInto room way s .status ≡ lowest (conversionConditions room way s)
+bad-conversion = converter.conversion-status
+
+-- "A refused check grants no right and sets no flag; a refused conversion writes no byte."
 pub refused-check : (q : Question) → (checked q .status ≡ 0 → ⊥) → GrantsNothing (checked q)
 refused-check = status.refused-grants-nothing
 
--- ---- Demand 2. "Input that no refusal fits is accepted."
+pub refused-file : (s : List ℕ) → (fileAnswer s .status ≡ 0 → ⊥) → GrantsNothing (fileAnswer s)
+refused-file = file.refused-file
 
+pub refused-conversion : (way : Way) (s before : List ℕ) → (conversionInto (length before) way s .status ≡ 0 → ⊥) →
+    sets before 0 (conversionInto (length before) way s .bytes) ≡ before
+refused-conversion = converter.refused-buffer
+
+-- the same of `pirasteh_list` and `pirasteh_pack`, with the lent buffer before and after, the lent number n and the result r
+pub refused-export : (way : Way) (s before after : List ℕ) (n r : ℕ) → Handed (conversionInto (length before) way s) before after n r →
+    (r ≡ 0 → ⊥) → Untouched before after n
+refused-export = converter.unwritten
+
+-- ---- Demand 2. "Input that no refusal fits is accepted."
 pub accepted-input : (q : Question) → Accepted q ↔ some-holds (conditions q) ≡ false
 accepted-input = status.accepted-when
 
--- "For it the granted mask, the allowed answer and the staging flag are those of the rules as document 01 states them."
+-- "For it the granted mask, the allowed answer and the staging flag are those of the published descriptor, confinement and policy rules as
+-- document 01 states them." Of a check, and of a question file; and of these: "no granted bit lies outside the bits asked"
 pub accepted-answer : (q : Question) → Accepted q → checked q ≡ byRules q (tokenIn q)
 accepted-answer = accepted.accepted-is
 
--- and of these: "no granted bit lies outside the bits asked"
+pub file-answered : (s : List ℕ) → fileMisshapen s ≡ false →
+    (q : Question) × (end : ℕ) × (questionOf s ≡ some q end) × (fileAnswer s ≡ checked q)
+file-answered = file.file-answered
+
 pub granted-in-asked : (q : Question) → Within (checked q .granted .0) (asked (q .kind) (q .mask))
 granted-in-asked = status.granted-asked
 
--- "Token records convert to the flat listing and back exactly."
+-- "Token records convert to the flat listing and back exactly." What `pirasteh_list` and `pirasteh_pack` write: the result's bytes, no more
 pub there-and-back : (s l : List ℕ) → T (areBytes s) → asListing s ≡ result l → asRecord l ≡ result s
 there-and-back = round-trip.there-and-back
 
 pub back-and-there : (l s : List ℕ) → T (areBytes l) → asRecord l ≡ result s → asListing s ≡ result l
 back-and-there = round-trip.back-and-there
 
--- ---- Demand 3. "Take two accepted checks alike in token, object kind, mask, self identity and owner; alike in whether the access list
--- is present; with as many policy rules, and staged lists in the same ones. If every list (the descriptor's, each rule's effective and
--- staged one) reads the same once entries naming nobody of the token and no virtual identity are struck out, then all three answers are
--- equal."
+pub written : (way : Way) (s before after : List ℕ) (n r : ℕ) → Handed (conversionInto (length before) way s) before after n r → r ≡ 0 →
+    Written (conversion way s .bytes) before after n
+written = converter.written
 
+-- ---- Demand 3. "Entries about strangers change nothing. Take two accepted checks alike in token, object kind, mask, self identity and
+-- owner; alike in whether the access list is present; with as many policy rules, and staged lists in the same ones. If every list (the
+-- descriptor's, each rule's effective and staged one) reads the same once entries naming nobody of the token and no virtual identity are
+-- struck out, then all three answers are equal."
 pub strangers-change-nothing : (p q : Question) → Accepted p → Accepted q → SameButStrangers p q → checked p ≡ checked q
 strangers-change-nothing = strangers.answer-strangers
 

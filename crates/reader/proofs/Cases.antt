@@ -8,7 +8,7 @@ use Rattle.lists.specs.Sid.{sidEnd}
 use Rattle.lists.specs.Acl.{headEnd, holds, entryEnd, aceAt, entriesAt, entriesOf}
 use Rattle.reader.specs.declared.Step.{Step}
 use Rattle.reader.specs.declared.Step.the-variants.{Entry as Shown, End}
-use Rattle.reader.specs.Reading.{among, stepAt, nextPlace, readAll}
+use Rattle.reader.specs.Reading.{shownAmong, stepAt, nextPlace, readAll}
 
 -- allow 1 to S-1-5 at 8, deny 2 to S-1-7 at 24; the count is n
 list : ℕ → List ℕ
@@ -26,20 +26,20 @@ deny = Shown (record { kind = 1; flags = 0; mask = record { 0 = 2 }; from = 32; 
 -- both are counted: each is shown at its place, and then the end, which is not left
 both : (stepAt (list 2) 8 ≡ allow) × (nextPlace (list 2) 8 ≡ 24) × (stepAt (list 2) 24 ≡ deny) × (nextPlace (list 2) 24 ≡ 40)
     × (stepAt (list 2) 40 ≡ End) × (nextPlace (list 2) 40 ≡ 40)
-unfolding list allow deny stepAt among aceAt entryEnd headEnd holds sidEnd u16At u32At
+unfolding list allow deny stepAt shownAmong aceAt entryEnd headEnd holds sidEnd u16At u32At
 both = (refl, refl, refl, refl, refl, refl)
 
 -- "Bytes after the last are accepted", and are no entry of the list, whatever they look like
 spare : (stepAt (list 1) 8 ≡ allow) × (stepAt (list 1) 24 ≡ End) × (stepAt (list 0) 8 ≡ End)
-unfolding list allow stepAt among aceAt entryEnd headEnd holds sidEnd u16At u32At
+unfolding list allow stepAt shownAmong aceAt entryEnd headEnd holds sidEnd u16At u32At
 spare = (refl, refl, refl)
 
 -- a place inside an entry, in the heading or past the list shows the end
 elsewhere : (stepAt (list 2) 12 ≡ End) × (stepAt (list 2) 0 ≡ End) × (stepAt (list 2) 9999 ≡ End)
-unfolding list stepAt among aceAt entryEnd headEnd holds sidEnd u16At u32At
+unfolding list stepAt shownAmong aceAt entryEnd headEnd holds sidEnd u16At u32At
 elsewhere = (refl, refl, refl)
 
 -- readings to the end are the definition's entries
 whole : (readAll (list 2) 2 8 ≡ entriesOf (list 2)) × (readAll (list 1) 7 8 ≡ entriesOf (list 1)) × (readAll (list 0) 7 8 ≡ [])
-unfolding list stepAt among readAll aceAt entriesAt entriesOf entryEnd headEnd holds sidEnd u16At u32At
+unfolding list stepAt shownAmong readAll aceAt entriesAt entriesOf entryEnd headEnd holds sidEnd u16At u32At
 whole = (refl, refl, refl)

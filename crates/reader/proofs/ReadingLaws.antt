@@ -19,14 +19,14 @@ use Rattle.lists.proofs.EntrySteps.{entry-end-bounds, ace-at-some}
 use Rattle.lists.proofs.AclLaws.{ace-found, plain-reads-all}
 use Rattle.reader.specs.declared.Entries.{Entries}
 use Rattle.reader.specs.declared.Step.the-variants.{Entry as Shown, End}
-use Rattle.reader.specs.Reading.{among, stepAt, readAll}
+use Rattle.reader.specs.Reading.{shownAmong, stepAt, readAll}
 use Rattle.reader.proofs.StepLaws.{among-none, among-stop, among-here, among-past, step-start}
 
 -- ---- what is left of a list at a place
 
 -- n entries are left at a place: from there on they alone are shown
 abbrev Left : List ℕ → ℕ → ℕ → Type 0
-Left l n at = (place : ℕ) → at ≤ place → stepAt l place ≡ among l place n at
+Left l n at = (place : ℕ) → at ≤ place → stepAt l place ≡ shownAmong l place n at
 
 -- an entry ends behind its place
 next-past : (l : List ℕ) (at : ℕ) → (aceAt l at .next ≡ 0 → ⊥) → at < aceAt l at .next
@@ -85,13 +85,13 @@ read-plain l m p h = ap length (read-all l m h) ∙ plain-reads-all l p
 
 -- ---- what is shown is one of the list's entries, wherever a reader is put
 
-among-own : (l : List ℕ) (at n p : ℕ) (a : Ace) → among l at n p ≡ Shown a → List·Memᴰ (entryOf l a) (entriesAt l n p)
-unfolding among entriesAt
+among-own : (l : List ℕ) (at n p : ℕ) (a : Ace) → shownAmong l at n p ≡ Shown a → List·Memᴰ (entryOf l a) (entriesAt l n p)
+unfolding shownAmong entriesAt
 among-own l at zero p a q = let z : _≡_ {A = ℕ} 0 1 = cc in absurd (omega arith)
 among-own l at (suc n) p a q = go (eqb (aceAt l p .next) 0) (eqb p at) q (among-own l at n (aceAt l p .next) a)
   where
-    go : (t u : Bool) → cond t End (cond u (Shown (aceAt l p)) (among l at n (aceAt l p .next))) ≡ Shown a →
-        (among l at n (aceAt l p .next) ≡ Shown a → List·Memᴰ (entryOf l a) (entriesAt l n (aceAt l p .next))) →
+    go : (t u : Bool) → cond t End (cond u (Shown (aceAt l p)) (shownAmong l at n (aceAt l p .next))) ≡ Shown a →
+        (shownAmong l at n (aceAt l p .next) ≡ Shown a → List·Memᴰ (entryOf l a) (entriesAt l n (aceAt l p .next))) →
         List·Memᴰ (entryOf l a) (cond t [] (entryOf l (aceAt l p) ∷ entriesAt l n (aceAt l p .next)))
     go true u q r = let z : _≡_ {A = ℕ} 0 1 = cc in absurd (omega arith)
     go false true q r = let s : a ≡ aceAt l p = cc in List·Memᴰ·head (ap (entryOf l) s)

@@ -18,44 +18,44 @@ use Rattle.lists.proofs.AclSteps.{HeadAt, head-at}
 use Rattle.lists.proofs.EntrySteps.{holds-some, entry-end-is, entry-end-bounds, ace-at-some, entry-end-holds, entry-end-sid}
 use Rattle.lists.proofs.AclLaws.{ace-found}
 use Rattle.reader.specs.declared.Step.the-variants.{Entry as Shown, End}
-use Rattle.reader.specs.Reading.{among, stepAt, placeAfter, nextPlace}
+use Rattle.reader.specs.Reading.{shownAmong, stepAt, placeAfter, nextPlace}
 
 -- ---- n entries from a place
 
 module _ (l : List ℕ) (at n p : ℕ) where
-  pub among-none : n ≡ 0 → among l at n p ≡ End
-  unfolding among
+  pub among-none : n ≡ 0 → shownAmong l at n p ≡ End
+  unfolding shownAmong
   among-none e = rw e
 
-  pub among-stop : aceAt l p .next ≡ 0 → among l at (suc n) p ≡ End
-  unfolding among
+  pub among-stop : aceAt l p .next ≡ 0 → shownAmong l at (suc n) p ≡ End
+  unfolding shownAmong
   among-stop e = rw (eq-eqb (aceAt l p .next) 0 e)
 
-  pub among-here : (aceAt l p .next ≡ 0 → ⊥) → p ≡ at → among l at (suc n) p ≡ Shown (aceAt l p)
-  unfolding among
+  pub among-here : (aceAt l p .next ≡ 0 → ⊥) → p ≡ at → shownAmong l at (suc n) p ≡ Shown (aceAt l p)
+  unfolding shownAmong
   among-here e q = rw (ne-eqb (aceAt l p .next) 0 e, eq-eqb p at q)
 
-  pub among-past : (aceAt l p .next ≡ 0 → ⊥) → (p ≡ at → ⊥) → among l at (suc n) p ≡ among l at n (aceAt l p .next)
-  unfolding among
+  pub among-past : (aceAt l p .next ≡ 0 → ⊥) → (p ≡ at → ⊥) → shownAmong l at (suc n) p ≡ shownAmong l at n (aceAt l p .next)
+  unfolding shownAmong
   among-past e q = rw (ne-eqb (aceAt l p .next) 0 e, ne-eqb p at q)
 
 -- k of m entries are passed, and there are more
-pub among-more : (l : List ℕ) (at m k p : ℕ) → k < m → among l at (m - k) p ≡ among l at (suc (m - (k + 1))) p
-among-more l at m k p h = ap (λ (n : ℕ). among l at n p) (omega arith)
+pub among-more : (l : List ℕ) (at m k p : ℕ) → k < m → shownAmong l at (m - k) p ≡ shownAmong l at (suc (m - (k + 1))) p
+among-more l at m k p h = ap (λ (n : ℕ). shownAmong l at n p) (omega arith)
 
 -- the entry that a step shows is the definition's at that place, and one stands there
 pub record Stands (l : List ℕ) (at : ℕ) (a : Ace) : Type 0 where
   pub same : a ≡ aceAt l at
   pub some : aceAt l at .next ≡ 0 → ⊥
 
-pub among-stands : (l : List ℕ) (at n p : ℕ) (a : Ace) → among l at n p ≡ Shown a → Stands l at a
-unfolding among
+pub among-stands : (l : List ℕ) (at n p : ℕ) (a : Ace) → shownAmong l at n p ≡ Shown a → Stands l at a
+unfolding shownAmong
 among-stands l at zero p a q = let z : _≡_ {A = ℕ} 0 1 = cc in absurd (omega arith)
 among-stands l at (suc n) p a q = go (eqb (aceAt l p .next) 0) refl (eqb p at) refl q (among-stands l at n (aceAt l p .next) a)
   where
     go : (t : Bool) → eqb (aceAt l p .next) 0 ≡ t → (u : Bool) → eqb p at ≡ u →
-        cond t End (cond u (Shown (aceAt l p)) (among l at n (aceAt l p .next))) ≡ Shown a →
-        (among l at n (aceAt l p .next) ≡ Shown a → Stands l at a) → Stands l at a
+        cond t End (cond u (Shown (aceAt l p)) (shownAmong l at n (aceAt l p .next))) ≡ Shown a →
+        (shownAmong l at n (aceAt l p .next) ≡ Shown a → Stands l at a) → Stands l at a
     go true e u f q r = let z : _≡_ {A = ℕ} 0 1 = cc in absurd (omega arith)
     go false e true f q r =
         let s : a ≡ aceAt l p = cc in
@@ -66,7 +66,7 @@ among-stands l at (suc n) p a q = go (eqb (aceAt l p .next) 0) refl (eqb p at) r
 -- ---- the list's own entries
 
 module _ (l : List ℕ) (at : ℕ) where
-  pub step-start : stepAt l at ≡ among l at (u16At l 4) 8
+  pub step-start : stepAt l at ≡ shownAmong l at (u16At l 4) 8
   unfolding stepAt
   step-start = refl
 

@@ -7,21 +7,20 @@ use mathlib.Core.Bool.{cond}
 use lib.Dec.{eqb}
 use Rattle.base.specs.Bytes.{u16At}
 use Rattle.lists.specs.Acl.{Entry, aceAt, entryOf}
-use Rattle.lists.specs.declared.acl.Ace.{Ace}
 use Rattle.reader.specs.declared.Step.{Step}
 use Rattle.reader.specs.declared.Step.the-variants.{Entry as Shown, End}
 
 -- what n entries back to back from place p have at a place: the one that begins there, or the end
-unfoldable pub among : List ℕ → ℕ → ℕ → ℕ → Step
-among l at zero p = End
-among l at (suc n) p =
+unfoldable pub shownAmong : List ℕ → ℕ → ℕ → ℕ → Step
+shownAmong l at zero p = End
+shownAmong l at (suc n) p =
     let a = aceAt l p in
-    let r = among l at n (a .next) in
+    let r = shownAmong l at n (a .next) in
     cond (eqb (a .next) 0) End (cond (eqb p at) (Shown a) r)
 
 -- what stands at a place of a list: one of its own entries, or the end
 unfoldable pub stepAt : List ℕ → ℕ → Step
-stepAt l at = among l at (u16At l 4) 8
+stepAt l at = shownAmong l at (u16At l 4) 8
 
 -- the place after what stands at a place; the end is not left
 abbrev pub placeAfter : ℕ → Step → ℕ

@@ -9,7 +9,8 @@ use lib.Dec.{ltb}
 use lib.ListN.{length}
 use lib.Seq.{sets, length-sets}
 use borrow.Author.Tests.{ltb-false}
-use Rattle.tokens.specs.Converters.{Conversion, refusal, fitted, answered}
+use Rattle.records.specs.Converters.{Conversion, refusal, fitted}
+use Rattle.tokens.specs.Answers.{answered}
 use Rattle.tokens.specs.declared.Converted.{Converted}
 
 fitted-room : (room : ℕ) (c : Conversion) → length (fitted room c .bytes) ≤ room

@@ -1,40 +1,32 @@
--- Laws of the way from a record to its listing: a copy, byte by byte; what the judge says of what was unpacked; the answer within a lent
--- buffer.
+-- Laws of the way from a record to its listing: what the judge says of what was unpacked; the answer within a lent buffer.
 -- Assumes nothing.
-use Prim.Native.Nat.{ℕ, _+_, _-_, _<_, _≤_, min}
+use Prim.Native.Nat.{ℕ, _-_, _<_, _≤_, min}
 use mathlib.Core.Path.{_≡_, refl, sym, ap, _∙_}
-use mathlib.Core.List.{List, [], _++_}
+use mathlib.Core.List.{List, []}
 use mathlib.Core.Bool.{Bool, true, false}
 use native.Mathlib.Omega.{arith}
-use native.Mathlib.Nat.{min-le-left, min-le-right}
-use native.Mathlib.Numerals.{add-one}
+use native.Mathlib.Nat.{min-le-right}
 use borrow.Author.Tests.{lt-ltb, le-ltb}
 use lib.Dec.{T}
 use lib.Pow.{areBytes}
-use lib.ListN.{length, getD, set, take, drop, replicate, length-replicate, length-take}
-use lib.Seq.{sets, sets-eq, drop-cons, drop-length, take-append-seam, length-sets}
+use lib.ListN.{length, take, length-take}
+use lib.Seq.{length-sets}
 use Rattle.base.specs.Bytes.{Read, part}
 use Rattle.base.specs.Bytes.Read.{none, some}
-use Rattle.tokens.specs.Token.{Token}
-use Rattle.tokens.specs.FlatListing.{readListing, listingOf}
-use Rattle.tokens.specs.TokenRecord.{readRecord}
-use Rattle.tokens.specs.TokenRules.{keeps}
-use Rattle.tokens.specs.Converters.{Conversion, converted, asListing, fitted, answered, refusal, result}
-use Rattle.tokens.specs.Unpacking.{Unpacked}
+use Rattle.base.proofs.BytesLaws.{part-front}
+use Rattle.base.proofs.WriteLaws.{sets-front}
+use Rattle.records.specs.Token.{Token}
+use Rattle.records.specs.FlatListing.{readListing, listingOf}
+use Rattle.records.specs.TokenRecord.{readRecord}
+use Rattle.records.specs.TokenRules.{keeps}
+use Rattle.records.specs.Converters.{Conversion, converted, asListing, fitted, refusal, result}
+use Rattle.records.specs.Unpacking.{Unpacked}
+use Rattle.records.proofs.RoundTrip.{listing-back, record-form, converted-kept}
+use Rattle.tokens.specs.Answers.{answered}
 use Rattle.tokens.specs.Judging.{judgedOf, Listed}
 use Rattle.tokens.specs.declared.flat.Listing.{Listing}
 use Rattle.tokens.specs.declared.judging.Judged.{Judged}
-use Rattle.tokens.proofs.RoundTrip.{listing-back, record-form, converted-kept}
 use Rattle.tokens.proofs.JudgePeople.{listing-cut}
-
--- ---- a copy
-
-pub copy-more : (from out : List ℕ) (i : ℕ) → i < length from → sets out i (drop i from)
-    ≡ sets (set out i (getD from i 0)) (i + 1) (drop (i + 1) from)
-copy-more from out i h = rw (add-one, drop-cons from i 0)
-
-pub copy-done : (from out : List ℕ) (i : ℕ) → i ≡ length from → sets out i (drop i from) ≡ out
-copy-done from out i h = rw (h, drop-length from)
 
 -- ---- what was unpacked, judged
 
@@ -45,19 +37,6 @@ unpacked-inside (some t end) entry exit n u h =
     let l : length exit ≡ length entry = ap length (u .1) ∙ length-sets entry 0 (listingOf t) in
     omega arith
 
--- the front of the buffer is the listing
-pub unpacked-front : (entry exit w : List ℕ) (n : ℕ) → n ≡ length w → exit ≡ sets entry 0 w → n ≤ length entry → take n exit ≡ w
-unpacked-front entry exit w n h e k =
-    let x : sets entry 0 w ≡ w ++ drop (0 + length w) entry = sets-eq w entry 0 (omega arith) in
-    rw (e, x, h) (take-append-seam w (drop (0 + length w) entry))
-
--- lent from its start
-pub part-front : (l : List ℕ) (n : ℕ) → part l 0 n ≡ take n l
-part-front l n = let m : n - 0 ≡ n = omega arith in ap (λ (k : ℕ). take k l) m
-
-pub part-short : (l : List ℕ) (n : ℕ) → length (part l 0 n) ≤ n
-part-short l n = rw (part-front l n, length-take n l) (min-le-left n (length l))
-
 module _ (s entry exit : List ℕ) (n : ℕ) (bytes : T (areBytes s)) (room : n ≤ length entry) where
   judged-go : (q : Read Token) → readRecord s ≡ q → Unpacked q entry exit n → judgedOf (readListing (part exit 0 n)) ≡ judgedOf q
   unfolding judgedOf
@@ -65,7 +44,7 @@ module _ (s entry exit : List ℕ) (n : ℕ) (bytes : T (areBytes s)) (room : n 
       let z : part exit 0 n ≡ [] = part-front exit n ∙ ap (λ (k : ℕ). take k exit) u in
       rw (z, listing-cut [] (omega arith))
   judged-go (some t end) e u =
-      let w : part exit 0 n ≡ listingOf t = part-front exit n ∙ unpacked-front entry exit (listingOf t) n (u .0) (u .1) room in
+      let w : part exit 0 n ≡ listingOf t = part-front exit n ∙ sets-front entry exit (listingOf t) n (u .0) (u .1) room in
       let l = listing-back t (record-form s t end bytes e .1) in
       rw (w, l)
 
@@ -73,10 +52,6 @@ module _ (s entry exit : List ℕ) (n : ℕ) (bytes : T (areBytes s)) (room : n 
   unpacked-judged u = judged-go (readRecord s) refl u
 
 -- ---- the answer with its listing
-
--- as long as it was made
-pub buffer-room : (n m : ℕ) → n ≤ m → n ≤ length {A = ℕ} (replicate m 0)
-buffer-room n m h = rw (length-replicate {A = ℕ} m 0) h
 
 -- a reading that is refused, as a conversion
 pub judged-refused : (f : Token → List ℕ) (q : Read Token) → (judgedOf q .status ≡ 0 → ⊥) →
@@ -135,7 +110,7 @@ module _ (s entry exit : List ℕ) (n : ℕ) (j : Judged) (bytes : T (areBytes s
       record {
         status = sym (ap (λ (x : Conversion). x .status) c);
         long = u .0 ∙ sym (ap (λ (x : Conversion). length (x .bytes)) c);
-        bytes = unpacked-front entry exit (listingOf (t .token)) n (u .0) (u .1) room ∙ sym (ap (λ (x : Conversion). x .bytes) c);
+        bytes = sets-front entry exit (listingOf (t .token)) n (u .0) (u .1) room ∙ sym (ap (λ (x : Conversion). x .bytes) c);
         place = ap (λ (x : Judged). x .«confined_at») judged-is;
       }
 

@@ -11,16 +11,15 @@ use borrow.Author.Tests.{not-true, not-false, eq-eqb, ne-eqb, le-ltb, lt-ltb}
 use lib.ListN.{length}
 use Rattle.base.specs.Bytes.{Read, bind, part, u32At, same}
 use Rattle.base.specs.Bytes.Read.{none, some}
-use Rattle.base.specs.Bits.{and}
-use Rattle.lists.specs.Sid.{sidEnd}
+use Rattle.lists.specs.Sid.{sidEnd, virtual}
 use Rattle.lists.proofs.SidLaws.{sid-end-bounds}
-use Rattle.tokens.specs.Token.{Group}
-use Rattle.tokens.specs.Fields.{many, groupAt}
-use Rattle.tokens.specs.FlatListing.{word, flatIdentity, flatReader}
-use Rattle.tokens.specs.TokenRules.{virtual, virtualGroup, virtualIn, lists, allRestricted}
-use Rattle.tokens.specs.Judging.{told, walked, marked, Seen, seenOf}
+use Rattle.records.specs.Token.{Group}
+use Rattle.records.specs.Fields.{many, groupAt}
+use Rattle.records.specs.FlatListing.{word, flatIdentity, flatReader}
+use Rattle.records.specs.TokenRules.{virtualGroup, virtualIn, lists, allRestricted}
+use Rattle.tokens.specs.Judging.{told, walked, seenBy, Seen, seenOf}
 use Rattle.tokens.specs.declared.judging.Walk.{Walk}
-use Rattle.tokens.specs.declared.judging.Marks.{Marks}
+use Rattle.tokens.specs.declared.judging.Capabilities.{Capabilities}
 
 -- ---- an identity and a word of a listing at a place
 
@@ -183,9 +182,9 @@ module _ {A : Type 0} (f : A → Bool) (q : Read A) (r : Walk) (is : walked r �
   pub walk-some : not (r .ok) ≡ false → Told f q (r .breaks) (r .next)
   walk-some h = told-some f q (r .breaks) (r .next) (sym is ∙ rw (not-false (r .ok) h))
 
-module _ (q : Read (List (List ℕ))) (r : Marks) (is : marked r ≡ told seenOf q) where
-  pub marks-none : not (r .ok) ≡ true → q ≡ none
-  marks-none h = told-none seenOf q (sym is ∙ rw (not-true (r .ok) h))
+module _ (q : Read (List (List ℕ))) (r : Capabilities) (is : seenBy r ≡ told seenOf q) where
+  pub seen-none : not (r .ok) ≡ true → q ≡ none
+  seen-none h = told-none seenOf q (sym is ∙ rw (not-true (r .ok) h))
 
-  pub marks-some : not (r .ok) ≡ false → Told seenOf q (record { breaks = r .breaks; listed = r .listed }) (r .next)
-  marks-some h = told-some seenOf q (record { breaks = r .breaks; listed = r .listed }) (r .next) (sym is ∙ rw (not-false (r .ok) h))
+  pub seen-some : not (r .ok) ≡ false → Told seenOf q (record { breaks = r .breaks; listed = r .listed }) (r .next)
+  seen-some h = told-some seenOf q (record { breaks = r .breaks; listed = r .listed }) (r .next) (sym is ∙ rw (not-false (r .ok) h))

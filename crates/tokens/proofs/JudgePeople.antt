@@ -12,44 +12,21 @@ use lib.Pow.{areBytes}
 use Rattle.base.specs.Bytes.{only, part, u32At, same}
 use Rattle.base.specs.Bytes.Read.{none, some}
 use Rattle.base.specs.Bits.{and}
-use Rattle.lists.specs.Sid.{sidEnd}
-use Rattle.tokens.specs.Token.{Confined, Token, confined, exempt, unconfined}
-use Rattle.tokens.specs.Fields.{many, each, groupAt, groupBytes, confinementAt, peopleAt, fieldsAt, ended}
-use Rattle.tokens.specs.FlatListing.{doubleWord, flatIdentity, flatReader, flatWriter, readListing}
-use Rattle.tokens.specs.TokenRules.{
-  virtual,
-  virtualGroup,
-  virtualIn,
-  lists,
-  allRestricted,
-  keeps,
-  exemptAlone,
-  virtualStands,
-  unrestricted,
-}
-use Rattle.tokens.specs.Judging.{judgedOf, told, walked, marked, Seen, seenOf, confinementBreaks, restBreaks}
-use Rattle.tokens.specs.declared.judging.Walk.{Walk}
-use Rattle.tokens.specs.Crowd.{confinedPlace}
-use Rattle.tokens.specs.declared.judging.Marks.{Marks}
 use Rattle.base.proofs.BytesLaws.{length-part}
-use Rattle.tokens.proofs.FormatLaws.{many-form}
-use Rattle.tokens.proofs.FieldsLaws.{group-kept}
-use Rattle.tokens.proofs.ListingLaws.{flat-format}
-use Rattle.tokens.proofs.JudgeLaws.{
-  identity-none,
-  identity-some,
-  identity-after,
-  word-none,
-  word-some,
-  Headed,
-  headed-identity,
-  headed-word,
-  Told,
-  walk-none,
-  walk-some,
-  marks-none,
-  marks-some,
-}
+use Rattle.lists.specs.Sid.{sidEnd, virtual}
+use Rattle.records.specs.Token.{Confined, Token, confined, exempt, unconfined}
+use Rattle.records.specs.Fields.{many, each, groupAt, groupBytes, confinementAt, peopleAt, fieldsAt, ended}
+use Rattle.records.specs.FlatListing.{doubleWord, flatIdentity, flatReader, flatWriter, readListing}
+use Rattle.records.specs.TokenRules.{virtualGroup, virtualIn, lists, allRestricted, keeps, exemptAlone, virtualStands, unrestricted}
+use Rattle.records.specs.Crowd.{confinedPlace}
+use Rattle.records.proofs.FormatLaws.{many-form}
+use Rattle.records.proofs.FieldsLaws.{group-kept}
+use Rattle.records.proofs.ListingLaws.{flat-format}
+use Rattle.tokens.specs.Judging.{judgedOf, told, walked, seenBy, Seen, seenOf, confinementBreaks, restBreaks}
+use Rattle.tokens.specs.declared.judging.Walk.{Walk}
+use Rattle.tokens.specs.declared.judging.Capabilities.{Capabilities}
+use Rattle.tokens.proofs.JudgeLaws.{identity-none, identity-some, identity-after, word-none, word-some, Headed, headed-identity}
+use Rattle.tokens.proofs.JudgeLaws.{headed-word, Told, walk-none, walk-some, seen-none, seen-some}
 
 -- ---- the confinement
 
@@ -68,18 +45,18 @@ module _ {s : List ℕ} {at e n : ℕ} (h : Headed s at e n) where
   unfolding confinementAt
   confinement-many k = rw (headed-identity h, headed-word h, lt-leb n 64 k)
 
-  module _ (few : n ≤ 64) (r : Marks) (walk : marked r ≡ told seenOf (many flatIdentity n s (e + 4))) where
+  module _ (few : n ≤ 64) (r : Capabilities) (walk : seenBy r ≡ told seenOf (many flatIdentity n s (e + 4))) where
     pub confinement-lost : not (r .ok) ≡ true → told confinementBreaks (confinementAt flatReader true s at) ≡ none
     unfolding confinementAt
     confinement-lost k =
-        rw (headed-identity h, headed-word h, le-leb n 64 few, marks-none (many flatIdentity n s (e + 4)) r walk k)
+        rw (headed-identity h, headed-word h, le-leb n 64 few, seen-none (many flatIdentity n s (e + 4)) r walk k)
 
     pub confinement-done : not (r .ok) ≡ false →
         told confinementBreaks (confinementAt flatReader true s at)
         ≡ some (virtual (part s at e) || r .breaks || not (r .listed)) (r .next)
     unfolding confinementAt
     confinement-done k =
-        let t = marks-some (many flatIdentity n s (e + 4)) r walk k in
+        let t = seen-some (many flatIdentity n s (e + 4)) r walk k in
         let b : virtualIn (t .a) ≡ r .breaks = ap (λ (x : Seen). x .breaks) (t .tells) in
         let l : lists allRestricted (t .a) ≡ r .listed = ap (λ (x : Seen). x .listed) (t .tells) in
         rw (headed-identity h, headed-word h, le-leb n 64 few, t .read, b, l)

@@ -1,22 +1,9 @@
--- The laws of this crate's definitions, for its proofs and for those of its callers.
-pub mod FormatLaws
-pub mod FieldsLaws
-pub mod IdentityLaws
-pub mod ListingLaws
-pub mod LengthLaws
-pub mod RoundTrip
-pub mod RecordLaws
-pub mod LimitLaws
-pub mod LargestLaws
-pub mod CrowdLaws
-pub mod WriteLaws
-pub mod PackLaws
-pub mod PackRecordLaws
-pub mod PackedLaws
-pub mod UnpackLaws
-pub mod RecordBytes
-pub mod RecordAnswer
+-- The laws of what the code answers, for the proofs of this crate and of its callers.
+-- the judge's walks
 pub mod JudgeLaws
+-- the judge on a whole listing
 pub mod JudgePeople
+-- from a record to its listing
 pub mod ConvertLaws
+-- from a listing to its record
 pub mod ToRecordLaws

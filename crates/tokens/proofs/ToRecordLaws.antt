@@ -8,14 +8,14 @@ use lib.Dec.{T}
 use lib.Pow.{areBytes}
 use lib.ListN.{length}
 use borrow.Author.Tests.{lt-ltb, le-ltb}
-use Rattle.tokens.specs.FlatListing.{readListing}
-use Rattle.tokens.specs.TokenRecord.{recordOf}
-use Rattle.tokens.specs.Converters.{asRecord, fitted, refusal, result}
+use Rattle.records.specs.FlatListing.{readListing}
+use Rattle.records.specs.TokenRecord.{recordOf}
+use Rattle.records.specs.Converters.{asRecord, fitted, refusal, result}
+use Rattle.records.specs.Packing.{recordBytes, Packable}
+use Rattle.records.proofs.RoundTrip.{listing-form, converted-kept}
+use Rattle.records.proofs.PackedLaws.{packed-listing, packable-listing}
 use Rattle.tokens.specs.Judging.{judgedOf}
-use Rattle.tokens.specs.Packing.{recordBytes, Packable}
 use Rattle.tokens.specs.declared.judging.Judged.{Judged}
-use Rattle.tokens.proofs.RoundTrip.{listing-form, converted-kept}
-use Rattle.tokens.proofs.PackedLaws.{packed-listing, packable-listing}
 use Rattle.tokens.proofs.ConvertLaws.{Taken, judged-taken, judged-refused}
 
 module _ (s : List ℕ) (j : Judged) (bytes : T (areBytes s)) (is : j ≡ judgedOf (readListing s)) where

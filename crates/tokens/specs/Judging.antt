@@ -7,15 +7,16 @@ use mathlib.Core.Bool.{Bool, cond, not, _||_}
 use lib.ListN.{length, take}
 use Rattle.base.specs.Bytes.{Read, bind}
 use Rattle.base.specs.Bytes.Read.{none, some}
-use Rattle.tokens.specs.Token.{Confined, Token, confined, exempt}
-use Rattle.tokens.specs.Crowd.{confinedPlace}
-use Rattle.tokens.specs.TokenRules.{virtual, virtualIn, lists, allRestricted, keeps}
-use Rattle.tokens.specs.TokenRecord.{readRecord}
-use Rattle.tokens.specs.Converters.{asListing}
+use Rattle.lists.specs.Sid.{virtual}
+use Rattle.records.specs.Token.{Confined, Token, confined, exempt}
+use Rattle.records.specs.Crowd.{confinedPlace}
+use Rattle.records.specs.TokenRules.{virtualIn, lists, allRestricted, keeps}
+use Rattle.records.specs.TokenRecord.{readRecord}
+use Rattle.records.specs.Converters.{asListing}
 use Rattle.tokens.specs.declared.flat.Listing.{Listing}
 use Rattle.tokens.specs.declared.judging.Judged.{Judged}
 use Rattle.tokens.specs.declared.judging.Walk.{Walk}
-use Rattle.tokens.specs.declared.judging.Marks.{Marks}
+use Rattle.tokens.specs.declared.judging.Capabilities.{Capabilities}
 
 -- 3 where the listing is misshapen, 4 where its token breaks a token rule, else 0 and where the confinement identity stands
 unfoldable pub judgedOf : Read Token → Judged
@@ -40,8 +41,8 @@ pub record Seen : Type 0 where
 abbrev pub seenOf : List (List ℕ) → Seen
 seenOf ws = record { breaks = virtualIn ws; listed = lists allRestricted ws }
 
-abbrev pub marked : Marks → Read Seen
-marked r = cond (r .ok) (some (record { breaks = r .breaks; listed = r .listed }) (r .next)) none
+abbrev pub seenBy : Capabilities → Read Seen
+seenBy r = cond (r .ok) (some (record { breaks = r .breaks; listed = r .listed }) (r .next)) none
 
 -- the token rules on a confinement
 abbrev pub confinementBreaks : Confined → Bool

@@ -1,23 +1,5 @@
--- "Token record (house format)", the flat listing, the token rules and the two converters, in the page's order.
--- what a token is
-pub mod Token
--- the fields, once for both formats
-pub mod Fields
--- the ranges of the fields
-pub mod Shaped
--- the packed record
-pub mod TokenRecord
--- the flat listing
-pub mod FlatListing
--- whom it shows
-pub mod Crowd
--- the token rules (4)
-pub mod TokenRules
--- the two converters, with 3, 4 and 11
-pub mod Converters
--- what unpacking leaves in a buffer
-pub mod Unpacking
--- what the judge of a listing answers
+-- What the code answers, in the words of the formats and the token rules.
+-- a conversion
+pub mod Answers
+-- the judge of a listing, and a listing in a buffer of its own
 pub mod Judging
--- what packing writes, by place
-pub mod Packing

@@ -3,11 +3,11 @@ ghost use mathlib.Core.Path.{_≡_};
 ghost use Prim.Native.Nat.{_≤_};
 ghost use lib.ListN.{length};
 ghost use lib.Seq.{sets};
-ghost use Rattle.tokens.specs.Converters.{asListing, fitted, answered};
+ghost use Rattle.records.specs.Converters.{asListing, fitted};
+ghost use Rattle.tokens.specs.Answers.{answered};
 ghost use Rattle.tokens.specs.Judging.{Listed};
 use crate::Converted;
 use crate::judging::judge;
-use crate::unpack::unpack;
 
 // A status number of the page (0, 3 or 4), the listing at the front of the bytes, and the place of
 // its confinement identity. Length and place are 0 on refusal.
@@ -24,7 +24,7 @@ pub fn listing_of(s: &[u8]) -> Listing
     ensures { λ r. ⌜ (r .length ≤ 22940) × (r .«confined_at» ≤ r .length) ⌝ }
 {
     let mut bytes = [0u8; 22940];
-    let n = unpack(s, &mut bytes);
+    let n = records::unpack(s, &mut bytes);
     let j = judge(&bytes[0..n]);
     if j.status != 0 {
         return Listing {
@@ -43,7 +43,7 @@ pub fn listing_of(s: &[u8]) -> Listing
 }
 
 // Copies all of `from` to the front of `out`.
-pub fn copy(from: &[u8], out: &mut [u8])
+pub(crate) fn copy(from: &[u8], out: &mut [u8])
     requires { ⌜ length (now from) ≤ length (now out) ⌝ }
     ensures { λ r. ⌜ now (out .exit) ≡ sets (now (out .entry)) 0 (now (from .entry)) ⌝ }
 {

@@ -3,14 +3,14 @@ ghost use mathlib.Core.Path.{_≡_};
 ghost use mathlib.Core.Bool.{true, _||_};
 ghost use Prim.Native.Nat.{ℕ, _≤_};
 ghost use lib.ListN.{length};
-ghost use Rattle.base.specs.Bytes.{part};
-ghost use Rattle.tokens.specs.Token.{confined};
-ghost use Rattle.tokens.specs.Fields.{many, groupAt, confinementAt, peopleAt, ended};
-ghost use Rattle.tokens.specs.FlatListing.{flatIdentity, flatReader, readListing};
-ghost use Rattle.tokens.specs.TokenRules.{virtual, virtualGroup, allRestricted};
-ghost use Rattle.tokens.specs.Judging.{judgedOf, told, walked, marked, seenOf};
+ghost use Rattle.base.specs.Bytes.{part, same};
+ghost use Rattle.lists.specs.Sid.{virtual};
+ghost use Rattle.records.specs.Token.{confined};
+ghost use Rattle.records.specs.Fields.{many, groupAt, confinementAt, peopleAt, ended};
+ghost use Rattle.records.specs.FlatListing.{flatIdentity, flatReader, readListing};
+ghost use Rattle.records.specs.TokenRules.{virtualGroup, allRestricted};
+ghost use Rattle.tokens.specs.Judging.{judgedOf, told, walked, seenBy, seenOf};
 ghost use Rattle.tokens.specs.Judging.{confinementBreaks, restBreaks};
-ghost use Rattle.base.specs.Bytes.{same};
 
 // 3 where the listing is misshapen, 4 where its token breaks a token rule, else 0 and the place
 // of the confinement identity, or of the end where there is none.
@@ -19,15 +19,17 @@ pub struct Judged {
     pub confined_at: usize,
 }
 
-// The place after what was read, and whether it breaks a token rule. Not ok where nothing was read.
+// The place after what was read, and whether it breaks a token rule. Not ok where nothing was read:
+// then the other fields mean nothing and are free.
 pub struct Walk {
     pub ok: bool,
     pub next: usize,
     pub breaks: bool,
 }
 
-// The same of capabilities, and whether S-1-15-2-2 stands among them.
-pub struct Marks {
+// The same of capabilities, and whether S-1-15-2-2 stands among them. Where `ok` is false the other
+// fields mean nothing and are free.
+pub struct Capabilities {
     pub ok: bool,
     pub next: usize,
     pub breaks: bool,
@@ -65,13 +67,7 @@ fn is_virtual(s: &[u8], from: usize, to: usize) -> bool
     requires { ⌜ (from ≤ to) × (to ≤ length (now s)) ⌝ }
     ensures { λ r. ⌜ r ≡ virtual (part (now (s .entry)) from to) ⌝ }
 {
-    let owner_rights = [1u8, 1, 0, 0, 0, 0, 0, 3, 4, 0, 0, 0];
-    let principal_self = [1u8, 1, 0, 0, 0, 0, 0, 5, 10, 0, 0, 0];
-    let w = &s[from..to];
-    if base::same(w, &owner_rights) {
-        return true;
-    }
-    base::same(w, &principal_self)
+    lists::is_virtual(&s[from..to])
 }
 
 // Whether the identity from `from` to `to` is S-1-15-2-2.
@@ -111,10 +107,10 @@ fn judge_groups(s: &[u8], at: usize, n: u32) -> Walk
     }
 }
 
-// As many capabilities from `at`.
-fn judge_capabilities(s: &[u8], at: usize, n: u32) -> Marks
+// As many capabilities from `at`. Where one is not there the answer is not ok, and says no more.
+fn judge_capabilities(s: &[u8], at: usize, n: u32) -> Capabilities
     requires { ⌜ at ≤ length (now s) ⌝ }
-    ensures { λ r. ⌜ marked r ≡ told seenOf (many flatIdentity n (now (s .entry)) at) ⌝ }
+    ensures { λ r. ⌜ seenBy r ≡ told seenOf (many flatIdentity n (now (s .entry)) at) ⌝ }
     ensures { λ r. ⌜ r .next ≤ length (now (s .entry)) ⌝ }
 {
     let mut from = at;
@@ -124,7 +120,7 @@ fn judge_capabilities(s: &[u8], at: usize, n: u32) -> Marks
     while 0 < more {
         let e = lists::sid_end(s, from);
         if e == 0 {
-            return Marks {
+            return Capabilities {
                 ok: false,
                 next: 0,
                 breaks: false,
@@ -136,7 +132,7 @@ fn judge_capabilities(s: &[u8], at: usize, n: u32) -> Marks
         from = e;
         more -= 1;
     }
-    Marks {
+    Capabilities {
         ok: true,
         next: from,
         breaks,

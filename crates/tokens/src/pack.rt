@@ -7,15 +7,18 @@ ghost use lib.ListN.{length};
 ghost use lib.Seq.{sets};
 ghost use Rattle.base.specs.Bytes.{u48BeAt};
 ghost use Rattle.base.specs.Sevens.{packed};
+ghost use Rattle.base.specs.Writing.{Wrote};
 ghost use Rattle.lists.specs.Sid.{sidEnd, isSid};
-ghost use Rattle.tokens.specs.TokenRecord.{packedWords, packIdentity};
-ghost use Rattle.tokens.specs.Converters.{asRecord, fitted, answered};
-ghost use Rattle.tokens.specs.Packing.{Wrote, memberBytes, memberEnd, membersBytes};
-ghost use Rattle.tokens.specs.Packing.{membersEnd, MembersStand, crowdBytes, crowdEnd};
-ghost use Rattle.tokens.specs.Packing.{CrowdStands, doubleAt, recordBytes, Packable};
+ghost use Rattle.records.specs.TokenRecord.{packedWords, packIdentity};
+ghost use Rattle.records.specs.Converters.{asRecord, fitted};
+ghost use Rattle.records.specs.Packing.{memberBytes, memberEnd, membersBytes, membersEnd};
+ghost use Rattle.records.specs.Packing.{MembersStand, crowdBytes, crowdEnd, CrowdStands, doubleAt};
+ghost use Rattle.records.specs.Packing.{recordBytes, Packable};
+ghost use Rattle.tokens.specs.Answers.{answered};
 use crate::Converted;
 use crate::flat::copy;
 use crate::judging::judge;
+use records::Attributes;
 
 // The place after what was read, and after what was written of it.
 pub struct Place {
@@ -80,6 +83,14 @@ fn pack_identity(w: &[u8], out: &mut [u8; 28021], o: usize) -> usize
     pack_words(w, n as usize, out, b)
 }
 
+// A group's attribute word.
+fn pack_attributes(word: Attributes, out: &mut [u8; 28021], o: usize) -> usize
+    requires { ⌜ o + length (packed (word .0)) ≤ 28021 ⌝ }
+    ensures { λ r. ⌜ Wrote (now (out .entry)) (now (out .exit)) o r (packed (word .0)) ⌝ }
+{
+    put(out, o, word.0 as u64)
+}
+
 // A member at a place: an identity and, where `attrs`, its attribute word.
 fn pack_member(s: &[u8], at: usize, attrs: bool, out: &mut [u8; 28021], o: usize) -> Place
     requires { ⌜ (sidEnd (now s) at ≡ 0 → ⊥) × (o + length (memberBytes attrs (now s) at) ≤ 28021) ⌝ }
@@ -92,10 +103,10 @@ fn pack_member(s: &[u8], at: usize, attrs: bool, out: &mut [u8; 28021], o: usize
     if !attrs {
         return Place { from: e, to };
     }
-    let word = base::u32_at(s, e);
+    let word = Attributes(base::u32_at(s, e));
     Place {
         from: e + 4,
-        to: put(out, to, word as u64),
+        to: pack_attributes(word, out, to),
     }
 }
 
@@ -149,7 +160,7 @@ fn privileges(s: &[u8]) -> u64
 }
 
 // The whole record of a listing, from the front of the buffer, and its length.
-pub fn pack(s: &[u8], out: &mut [u8; 28021]) -> usize
+fn pack(s: &[u8], out: &mut [u8; 28021]) -> usize
     requires { ⌜ Packable (now s) ⌝ }
     ensures { λ r. ⌜ Wrote (now (out .entry)) (now (out .exit)) 0 r (recordBytes (now (s .entry))) ⌝ }
 {

@@ -1,9 +1,9 @@
 // Cases of a question.
-use crate::text::NOWHERE;
-use crate::text::after;
-use crate::text::bytes_of;
 use crate::text::ends_with_number;
 use access::Answer;
+use testkit::NOWHERE;
+use testkit::after;
+use testkit::bytes_of;
 
 fn after_flag(line: &[u8], at: usize, flag: bool) -> usize {
     if flag {
@@ -34,9 +34,9 @@ fn is_line(line: &[u8], a: Answer) -> bool {
 
 // Whether the question in hexadecimal digits has the answer that the line says. The buffer has
 // room for a file that is too long by one byte.
-pub fn agrees(hex: &[u8], line: &[u8]) -> bool {
+pub(crate) fn agrees(hex: &[u8], line: &[u8]) -> bool {
     let mut file = [0u8; 65538];
-    let h = bytes_of(hex, &mut file);
+    let h = bytes_of(hex, b'\n', &mut file);
     if !h.ok {
         return false;
     }

@@ -1,6 +1,6 @@
 // Cases of the two converters.
-use crate::text::bytes_of;
 use crate::text::ends_with_number;
+use testkit::bytes_of;
 
 fn is_listing_of(listing: &[u8], record: &[u8]) -> bool {
     let mut out = [0u8; 22940];
@@ -29,14 +29,14 @@ fn is_record_of(record: &[u8], listing: &[u8]) -> bool {
 }
 
 // Whether each of two forms in hexadecimal digits converts to the other.
-pub fn both_ways(record_hex: &[u8], listing_hex: &[u8]) -> bool {
+pub(crate) fn both_ways(record_hex: &[u8], listing_hex: &[u8]) -> bool {
     let mut record = [0u8; 28022];
-    let r = bytes_of(record_hex, &mut record);
+    let r = bytes_of(record_hex, b'\n', &mut record);
     if !r.ok {
         return false;
     }
     let mut listing = [0u8; 22941];
-    let l = bytes_of(listing_hex, &mut listing);
+    let l = bytes_of(listing_hex, b'\n', &mut listing);
     if !l.ok {
         return false;
     }
@@ -49,9 +49,9 @@ pub fn both_ways(record_hex: &[u8], listing_hex: &[u8]) -> bool {
 }
 
 // Whether a record in hexadecimal digits is refused with the number that the line says.
-pub fn record_refused(hex: &[u8], line: &[u8]) -> bool {
+pub(crate) fn record_refused(hex: &[u8], line: &[u8]) -> bool {
     let mut record = [0u8; 28022];
-    let h = bytes_of(hex, &mut record);
+    let h = bytes_of(hex, b'\n', &mut record);
     if !h.ok {
         return false;
     }
@@ -62,9 +62,9 @@ pub fn record_refused(hex: &[u8], line: &[u8]) -> bool {
 }
 
 // Whether a listing in hexadecimal digits is refused with the number that the line says.
-pub fn listing_refused(hex: &[u8], line: &[u8]) -> bool {
+pub(crate) fn listing_refused(hex: &[u8], line: &[u8]) -> bool {
     let mut listing = [0u8; 22941];
-    let h = bytes_of(hex, &mut listing);
+    let h = bytes_of(hex, b'\n', &mut listing);
     if !h.ok {
         return false;
     }

@@ -4,8 +4,12 @@ mod ask;
 mod convert;
 mod text;
 
-use libc::STDOUT_FILENO;
-use text::next_line;
+ghost use mathlib.Core.Path.{_≡_};
+ghost use mathlib.Core.Bool.{cond};
+use testkit::after;
+use testkit::next_line;
+use testkit::print;
+use testkit::print_number;
 
 // What two lines that follow each other are.
 const NO_CASE: u8 = 0;
@@ -14,81 +18,62 @@ const AGREES: u8 = 1;
 
 const DIFFERS: u8 = 2;
 
-fn print(bytes: &[u8]) {
-    io::write_all(STDOUT_FILENO, bytes);
+fn verdict(agrees: bool) -> u8
+    ensures { λ r. ⌜ r ≡ cond agrees 1 2 ⌝ }
+{
+    if agrees {
+        return AGREES;
+    }
+    DIFFERS
 }
 
-fn verdict(agrees: bool) -> u8 {
-    if agrees { AGREES } else { DIFFERS }
-}
-
-// A case of a question: `ask = ` and `line = `.
-fn question(line: &[u8], rest: &[u8]) -> u8 {
-    let a = text::after(line, 0, b"ask = ");
-    let b = text::after(rest, 0, b"line = ");
-    if line.len() < a {
+// A question in digits, and what it is answered: `line = `.
+fn question(hex: &[u8], rest: &[u8]) -> u8 {
+    let a = after(rest, 0, b"line = ");
+    if rest.len() < a {
         return NO_CASE;
     }
+    verdict(ask::agrees(hex, &rest[a..]))
+}
+
+// A record in digits, and what it is turned into: `listing = `, or the number of its refusal,
+// `refused = `.
+fn record(hex: &[u8], rest: &[u8]) -> u8 {
+    let a = after(rest, 0, b"refused = ");
+    if a <= rest.len() {
+        return verdict(convert::record_refused(hex, &rest[a..]));
+    }
+    let b = after(rest, 0, b"listing = ");
     if rest.len() < b {
         return NO_CASE;
     }
-    verdict(ask::agrees(&line[a..], &rest[b..]))
+    verdict(convert::both_ways(hex, &rest[b..]))
 }
 
-// A token in both forms: `record = ` and `listing = `.
-fn pair(line: &[u8], rest: &[u8]) -> u8 {
-    let a = text::after(line, 0, b"record = ");
-    let b = text::after(rest, 0, b"listing = ");
-    if line.len() < a {
+// A listing in digits, and the number of its refusal: `refused = `.
+fn listing(hex: &[u8], rest: &[u8]) -> u8 {
+    let a = after(rest, 0, b"refused = ");
+    if rest.len() < a {
         return NO_CASE;
     }
-    if rest.len() < b {
-        return NO_CASE;
-    }
-    verdict(convert::both_ways(&line[a..], &rest[b..]))
-}
-
-// A record that is refused: `record = ` and `refused = `.
-fn record(line: &[u8], rest: &[u8]) -> u8 {
-    let a = text::after(line, 0, b"record = ");
-    let b = text::after(rest, 0, b"refused = ");
-    if line.len() < a {
-        return NO_CASE;
-    }
-    if rest.len() < b {
-        return NO_CASE;
-    }
-    verdict(convert::record_refused(&line[a..], &rest[b..]))
-}
-
-// A listing that is refused: `listing = ` and `refused = `.
-fn listing(line: &[u8], rest: &[u8]) -> u8 {
-    let a = text::after(line, 0, b"listing = ");
-    let b = text::after(rest, 0, b"refused = ");
-    if line.len() < a {
-        return NO_CASE;
-    }
-    if rest.len() < b {
-        return NO_CASE;
-    }
-    verdict(convert::listing_refused(&line[a..], &rest[b..]))
+    verdict(convert::listing_refused(hex, &rest[a..]))
 }
 
 // The case that begins with a line, if one does, where the rest of the text is what follows.
 fn case(line: &[u8], rest: &[u8]) -> u8 {
-    let q = question(line, rest);
-    if q != NO_CASE {
-        return q;
+    let a = after(line, 0, b"ask = ");
+    if a <= line.len() {
+        return question(&line[a..], rest);
     }
-    let p = pair(line, rest);
-    if p != NO_CASE {
-        return p;
+    let b = after(line, 0, b"record = ");
+    if b <= line.len() {
+        return record(&line[b..], rest);
     }
-    let r = record(line, rest);
-    if r != NO_CASE {
-        return r;
+    let c = after(line, 0, b"listing = ");
+    if c <= line.len() {
+        return listing(&line[c..], rest);
     }
-    listing(line, rest)
+    NO_CASE
 }
 
 // How many cases were met, and how many differ.
@@ -111,7 +96,7 @@ fn counted(name: &[u8], c: Score, found: u8) -> Score {
     }
     print(name);
     print(b": case ");
-    io::print_decimal(STDOUT_FILENO, cases);
+    print_number(cases);
     print(b" differs\n");
     Score {
         cases,
@@ -139,27 +124,16 @@ fn report(name: &[u8], text: &[u8]) {
     let c = count(name, text);
     print(name);
     print(b": ");
-    io::print_decimal(STDOUT_FILENO, c.cases);
+    print_number(c.cases);
     print(b" cases, ");
-    io::print_decimal(STDOUT_FILENO, c.differ);
+    print_number(c.differ);
     print(b" differ\n");
 }
 
 // Reads a vector file and runs its cases.
 fn run(name: &[u8]) {
-    let fd = os::open_read(name);
-    if fd < 0 {
-        os::fail(name);
-        return;
-    }
     let mut text = [0u8; 524288];
-    let n = io::read_full(fd, &mut text);
-    libc::close(fd);
-    if n == 524288 {
-        print(name);
-        print(b": too long\n");
-        return;
-    }
+    let n = testkit::read(name, &mut text);
     report(name, &text[0..n]);
 }
 

@@ -16,14 +16,14 @@ Inv-loop name list at₀ step₀ at step = step ≡ stepAt list at
 abbrev μ-loop : tie.MeasureT-loop
 μ-loop name list at₀ step₀ at step = length list - at
 
-write-all-requires : tie.Need-write-all-requires Inv-loop μ-loop
-write-all-requires c κs = search needs
+print-requires : tie.Need-print-requires Inv-loop μ-loop
+print-requires c κs = search needs
 
-slice-aggregate-write-all : tie.Need-slice-aggregate-write-all Inv-loop μ-loop
-slice-aggregate-write-all c = search needs
+slice-aggregate-print : tie.Need-slice-aggregate-print Inv-loop μ-loop
+slice-aggregate-print c = search needs
 
-write-all-requires-2 : tie.Need-write-all-requires-2 Inv-loop μ-loop
-write-all-requires-2 c κs = search needs
+print-requires-2 : tie.Need-print-requires-2 Inv-loop μ-loop
+print-requires-2 c κs = search needs
 
 first-requires : tie.Need-first-requires Inv-loop μ-loop
 first-requires c κs = search needs
@@ -67,9 +67,9 @@ listed-spec =
     (tie.spec
     Inv-loop
     μ-loop
-    write-all-requires
-    slice-aggregate-write-all
-    write-all-requires-2
+    print-requires
+    slice-aggregate-print
+    print-requires-2
     first-requires
     loop-holds
     enum-known-step

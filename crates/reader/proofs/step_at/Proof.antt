@@ -7,13 +7,13 @@ use native.Mathlib.Omega.{arith}
 use borrow.Author.Needs.{needs}
 use Rattle.lists.specs.declared.acl.Ace.{Ace}
 use Rattle.reader.specs.declared.Step.the-variants.{Entry as Shown}
-use Rattle.reader.specs.Reading.{among, stepAt}
+use Rattle.reader.specs.Reading.{shownAmong, stepAt}
 use Rattle.reader.proofs.StepLaws.{step-start, among-none, among-stop, among-here, among-past, among-more}
 use Rattle.reader.proofs.step_at.Statement.{statement}
 use Rattle.reader.proofs.step_at.Tie as tie
 
 abbrev Inv-loop : tie.InvT-loop
-Inv-loop list at n p₀ k₀ p k = (k ≤ n) × (stepAt list at ≡ among list at (n - k) p)
+Inv-loop list at n p₀ k₀ p k = (k ≤ n) × (stepAt list at ≡ shownAmong list at (n - k) p)
 
 abbrev μ-loop : tie.MeasureT-loop
 μ-loop list at n p₀ k₀ p k = n - k
@@ -25,7 +25,7 @@ loop-holds : tie.Need-loop-holds Inv-loop μ-loop
 loop-holds c =
     let a = c .before .before .args in
     let e = c .u16-at .ensures .0 in
-    (omega arith, step-start (a .list .now) (a .at) ∙ ap (λ (m : ℕ). among (a .list .now) (a .at) m 8) (omega (arith, e)))
+    (omega arith, step-start (a .list .now) (a .at) ∙ ap (λ (m : ℕ). shownAmong (a .list .now) (a .at) m 8) (omega (arith, e)))
 
 ace-at-requires : tie.Need-ace-at-requires Inv-loop μ-loop
 ace-at-requires c κs = search needs
@@ -69,7 +69,7 @@ loop-again c =
       omega arith,
       i .inv .1 ∙ among-more (a .list .now) (a .at) n (i .k) (i .p) (omega arith)
           ∙ among-past (a .list .now) (a .at) (n - (i .k + 1)) (i .p) (λ q. c .before .if1 .left (e ∙ q)) (c .if2 .left)
-          ∙ ap (among (a .list .now) (a .at) (n - (i .k + 1))) (sym e),
+          ∙ ap (shownAmong (a .list .now) (a .at) (n - (i .k + 1))) (sym e),
     )
 
 returns-3 : tie.Need-returns-3 Inv-loop μ-loop

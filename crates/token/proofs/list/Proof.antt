@@ -2,7 +2,7 @@
 -- Assumes nothing.
 use lib.ListN.{replicate}
 use borrow.Author.Needs.{needs}
-use Rattle.tokens.specs.Converters.{asListing}
+use Rattle.records.specs.Converters.{asListing}
 use Rattle.token.proofs.RoomLaws.{written-inside}
 use Rattle.token.proofs.list.Statement.{statement}
 use Rattle.token.proofs.list.Tie as tie

@@ -2,7 +2,7 @@
 -- Assumes nothing.
 use lib.ListN.{replicate}
 use borrow.Author.Needs.{needs}
-use Rattle.tokens.specs.Converters.{asRecord}
+use Rattle.records.specs.Converters.{asRecord}
 use Rattle.token.proofs.RoomLaws.{written-inside}
 use Rattle.token.proofs.pack.Statement.{statement}
 use Rattle.token.proofs.pack.Tie as tie

@@ -3,7 +3,7 @@
 use lib.Bits.{bitAnd}
 use borrow.Author.Needs.{needs}
 use borrow.Author.Tests.{eq-eqb, ne-eqb}
-use Rattle.passes.specs.KindsAndMasks.{explicit, maximum}
+use Rattle.masks.specs.KindsAndMasks.{explicit, maximum}
 use Rattle.access.proofs.answer.is_allowed.Statement.{statement}
 use Rattle.access.proofs.answer.is_allowed.Tie as tie
 
@@ -18,21 +18,21 @@ returns c =
 
 returns-2 : tie.Need-returns-2
 returns-2 c =
-    let a = c .before .before .before .before .before .before .before .args in
-    let e = c .before .before .before .before .before .before .explicit in
-    rw (
-      ← e .ensures,
-      eq-eqb (bitAnd (a .granted .0) (e .result .0)) (e .result .0) (c .before .before .if1 .left),
-      eq-eqb (bitAnd (a .mask .0) maximum) 0 (c .if2 .taken),
-    )
-
-returns-3 : tie.Need-returns-3
-returns-3 c =
     let a = c .before .before .before .before .before .before .before .before .args in
     let e = c .before .before .before .before .before .before .before .explicit in
     rw (
       ← e .ensures,
       eq-eqb (bitAnd (a .granted .0) (e .result .0)) (e .result .0) (c .before .before .before .if1 .left),
+      eq-eqb (bitAnd (a .mask .0) maximum) 0 (c .if2 .taken),
+    )
+
+returns-3 : tie.Need-returns-3
+returns-3 c =
+    let a = c .before .before .before .before .before .before .before .before .before .args in
+    let e = c .before .before .before .before .before .before .before .before .explicit in
+    rw (
+      ← e .ensures,
+      eq-eqb (bitAnd (a .granted .0) (e .result .0)) (e .result .0) (c .before .before .before .before .if1 .left),
       ne-eqb (bitAnd (a .mask .0) maximum) 0 (c .before .if2 .left),
     )
 

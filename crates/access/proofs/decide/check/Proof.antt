@@ -4,7 +4,7 @@ use mathlib.Core.Path.{_≡_, sym, _∙_}
 use mathlib.Core.Bool.{true}
 use borrow.Author.Needs.{needs}
 use borrow.Author.Tests.{not-true, not-false}
-use Rattle.passes.specs.KindsAndMasks.{knownKind, legal}
+use Rattle.masks.specs.KindsAndMasks.{knownKind, legal}
 use Rattle.access.specs.Status.{Question}
 use Rattle.access.proofs.FindingsLaws.{check-kind, check-mask, check-stopped, check-answered}
 use Rattle.access.proofs.decide.check.Statement.{statement}

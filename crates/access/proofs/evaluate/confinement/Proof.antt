@@ -3,7 +3,7 @@
 use mathlib.Core.Path.{sym, ap, _∙_}
 use mathlib.Core.Bool.{false}
 use borrow.Author.Tests.{not-true, not-false}
-use Rattle.tokens.specs.Crowd.{crowdAt}
+use Rattle.records.specs.Crowd.{crowdAt}
 use Rattle.passes.specs.Matching.{hitsOf}
 use Rattle.passes.specs.Confinement.{confines}
 use Rattle.access.proofs.EvaluatingSteps.{not-confined, is-confined, listed-walked}

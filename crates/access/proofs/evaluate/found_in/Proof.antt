@@ -2,7 +2,7 @@
 -- Assumes nothing.
 use mathlib.Core.Path.{_∙_}
 use Rattle.passes.specs.Matching.{hitsOf}
-use Rattle.policy.specs.Found.{foundOf}
+use Rattle.policy.specs.ByLengths.{rulesByLengths}
 use Rattle.access.specs.Evaluating.{crowdIn, privilegesIn}
 use Rattle.access.proofs.EvaluatingSteps.{normal-walked, rules-kept, found-made}
 use borrow.Author.Needs.{needs}
@@ -44,14 +44,14 @@ returns c =
     let a = by-marks .before .before .before .before .before .before .args in
     let l = a .listing .now in
     let h = hitsOf (crowdIn l) (a .owner .now) (a .me .now) in
-    found-made (a .kind) l (a .place) (a .owner .now) (a .me .now) (a .present) (a .list .now) (foundOf (a .policy .now)) _ _ _
+    found-made (a .kind) l (a .place) (a .owner .now) (a .me .now) (a .present) (a .list .now) (rulesByLengths (a .policy .now)) _ _ _
     (by-confinement .before .normal .ensures
     ∙ rw (by-pass .pass .ensures, by-hits .hits .ensures, by-marks .marks .ensures, by-word .u32-at .ensures)
     (normal-walked (a .kind) (a .present) (crowdIn l) h (privilegesIn l) (a .list .now)))
     (by-confinement .confinement .ensures)
     (by-rules .ruled-by .ensures
     ∙ rw (by-hits .hits .ensures, by-marks .marks .ensures, by-word .u32-at .ensures)
-    (rules-kept (a .kind) (crowdIn l) h (privilegesIn l) (foundOf (a .policy .now))))
+    (rules-kept (a .kind) (crowdIn l) h (privilegesIn l) (rulesByLengths (a .policy .now))))
 
 pub found-in-spec : {M : Type 1} → statement M
 found-in-spec =

@@ -3,7 +3,8 @@
 use native.Mathlib.Omega.{arith}
 use borrow.Author.Tests.{not-true, not-false}
 use Rattle.base.specs.Sevens.{number}
-use Rattle.access.proofs.FileSteps.{num-none, num-some, blob-none, blob-short, blob-stands, not-handed}
+use Rattle.base.proofs.ReadLaws.{num-none, num-some}
+use Rattle.access.proofs.FileSteps.{blob-none, blob-short, blob-stands, not-handed}
 use borrow.Author.Needs.{needs}
 use Rattle.access.proofs.file.blob_at.Statement.{statement}
 use Rattle.access.proofs.file.blob_at.Tie as tie

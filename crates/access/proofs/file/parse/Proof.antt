@@ -10,7 +10,8 @@ use Rattle.base.specs.Bytes.Read.{some}
 use Rattle.base.specs.Sevens.{number}
 use Rattle.access.specs.QuestionFile.{blobAt}
 use Rattle.access.specs.Blobs.{bytesIn}
-use Rattle.access.proofs.FileSteps.{num-none, num-some, handed-none, handed-some, no-kind, no-mask, no-token, no-self}
+use Rattle.base.proofs.ReadLaws.{num-none, num-some}
+use Rattle.access.proofs.FileSteps.{handed-none, handed-some, no-kind, no-mask, no-token, no-self}
 use Rattle.access.proofs.FileSteps.{no-descriptor, no-policy, more-follows, whole-question, not-posed}
 use Rattle.access.proofs.file.parse.Statement.{statement}
 use Rattle.access.proofs.file.parse.Tie as tie

@@ -1,6 +1,7 @@
 -- `question` meets its contract: a file that is too long or misshapen is 12, and any other is the question that it holds.
 -- Assumes nothing.
 use mathlib.Core.Path.{sym, _∙_}
+use native.Mathlib.Omega.{arith}
 use lib.ListN.{length}
 use borrow.Author.Needs.{needs}
 use borrow.Author.Tests.{not-true, not-false}
@@ -13,7 +14,7 @@ refused-requires : tie.Need-refused-requires
 refused-requires c κs = search needs
 
 returns : tie.Need-returns
-returns c = c .refused .ensures ∙ sym (file-long (c .before .before .before .args .s .now) (c .before .if1 .taken))
+returns c = c .refused .ensures ∙ sym (file-long (c .before .before .before .args .s .now) (omega (arith, c .before .if1 .taken)))
 
 parse-requires : tie.Need-parse-requires
 parse-requires c κs = search needs
@@ -26,7 +27,7 @@ returns-2 c =
     let s = c .before .before .before .before .before .before .args .s .now in
     let p = c .before .before .before .parse in
     let nothing = posed-none s (p .result) (p .ensures .0) (not-true (p .result .ok) (c .before .if2 .taken)) in
-    c .refused2 .ensures ∙ sym (file-misshapen s (c .before .before .before .before .if1 .left) nothing)
+    c .refused2 .ensures ∙ sym (file-misshapen s (omega (arith, c .before .before .before .before .if1 .left)) nothing)
 
 bytes-in-requires : tie.Need-bytes-in-requires
 bytes-in-requires c κs = search needs

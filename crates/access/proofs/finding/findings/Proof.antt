@@ -11,7 +11,8 @@ use Rattle.base.proofs.BytesLaws.{bytes-of-lt}
 use Rattle.lists.specs.Descriptor as descriptor
 use Rattle.lists.specs.declared.descriptor.Parts.{Parts}
 use Rattle.lists.proofs.DescriptorSteps.{part-handed}
-use Rattle.tokens.proofs.ConvertLaws.{part-front, listed-inside}
+use Rattle.base.proofs.BytesLaws.{part-front}
+use Rattle.tokens.proofs.ConvertLaws.{listed-inside}
 use Rattle.policy.specs.Policy as policy
 use Rattle.access.specs.Status.{selfFits, descriptorNumber, policyNumber}
 use Rattle.access.specs.Findings.{accepted}

@@ -1,7 +1,6 @@
 -- `head_end` meets its contract: each way out is a test of the definition that failed, and the last is an entry that fits.
 -- Assumes nothing.
-use Prim.Native.Nat.{ℕ, _%_}
-use mathlib.Core.Path.{sym, ap, _∙_}
+use mathlib.Core.Path.{sym}
 use native.Mathlib.Omega.{arith}
 use borrow.Author.Needs.{needs}
 use Rattle.lists.proofs.AclSteps.{head-end-short, head-end-odd, head-end-small, head-end-cut, head-end-whole}
@@ -34,7 +33,7 @@ returns-3 : tie.Need-returns-3
 returns-3 c =
     let a = c .before .before .before .before .before .args in
     let e = c .before .u16-at .ensures .0 in
-    (sym (head-end-odd (a .l .now) (a .at) (omega arith) (λ q. c .if3 .taken (ap (λ (x : ℕ). x % 4) e ∙ q))), omega arith)
+    (sym (head-end-odd (a .l .now) (a .at) (omega arith) (λ q. omega (arith, e, c .if3 .taken))), omega arith)
 
 returns-4 : tie.Need-returns-4
 returns-4 c =

@@ -18,8 +18,8 @@ privileges-give-requires c κs = search needs
 
 returns : tie.Need-returns
 unfolding normalBy
-returns c = ap₂ or (c .before .before .before .listed .ensures)
-    (ap₂ or (c .before .before .owner-gives .ensures) (c .before .privileges-give .ensures))
+returns c = ap₂ or (c .before .before .before .before .before .listed .ensures)
+    (ap₂ or (c .before .before .before .before .owner-gives .ensures) (c .before .before .before .privileges-give .ensures))
 
 pub normal-spec : {M : Type 1} → statement M
 normal-spec =

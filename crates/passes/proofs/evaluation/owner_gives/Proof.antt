@@ -2,7 +2,7 @@
 -- Assumes nothing.
 use mathlib.Core.Bool.{Bool, cond}
 use mathlib.Core.Path.{sym, ap}
-use Rattle.passes.proofs.BoolLaws.{and-false}
+use Rattle.base.proofs.BoolLaws.{and-false}
 use Rattle.passes.proofs.evaluation.owner_gives.Statement.{statement}
 use Rattle.passes.proofs.evaluation.owner_gives.Tie as tie
 

@@ -13,7 +13,7 @@ when-requires-2 : tie.Need-when-requires-2
 when-requires-2 c κs = search needs
 
 returns : tie.Need-returns
-returns c = ap₂ or (c .before .when .ensures) (c .when2 .ensures)
+returns c = ap₂ or (c .before .before .before .when .ensures) (c .before .before .when2 .ensures)
 
 pub privileges-give-spec : {M : Type 1} → statement M
 privileges-give-spec = tie.close (tie.spec when-requires when-requires-2 returns)

@@ -3,7 +3,7 @@
 use borrow.Author.Tests.{eq-eqb, ne-eqb}
 use lib.Dec.{eqb}
 use Rattle.base.specs.Bits.{and}
-use Rattle.passes.proofs.BoolLaws.{not-not}
+use Rattle.base.proofs.BoolLaws.{not-not}
 use Rattle.passes.proofs.seats.allows.Statement.{statement}
 use Rattle.passes.proofs.seats.allows.Tie as tie
 

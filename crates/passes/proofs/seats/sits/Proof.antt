@@ -3,7 +3,7 @@
 use mathlib.Core.Path.{sym, _∙_}
 use borrow.Author.Needs.{needs}
 use borrow.Author.Tests.{not-true, not-false}
-use Rattle.passes.proofs.BoolLaws.{and-false, and-true}
+use Rattle.base.proofs.BoolLaws.{and-false, and-true}
 use Rattle.passes.proofs.seats.sits.Statement.{statement}
 use Rattle.passes.proofs.seats.sits.Tie as tie
 

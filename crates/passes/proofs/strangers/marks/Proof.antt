@@ -7,7 +7,7 @@ use mathlib.Core.Path.{_≡_, sym, ap, _∙_}
 use native.Mathlib.Omega.{arith}
 use borrow.Author.Needs.{needs}
 use lib.ListN.{length, length-set}
-use Rattle.tokens.specs.Crowd.{crowdAt}
+use Rattle.records.specs.Crowd.{crowdAt}
 use Rattle.passes.specs.Marks.{marked, marksOf}
 use Rattle.passes.specs.Seats.{fromSeat}
 use Rattle.passes.proofs.SearchLaws.{marked-none, marked-last, marked-more}

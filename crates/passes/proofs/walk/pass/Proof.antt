@@ -15,14 +15,15 @@ use Rattle.base.specs.Bytes.{same, part}
 use Rattle.lists.specs.Acl.{Entry, entryOf, entriesAt, entriesOf}
 use Rattle.lists.specs.Sid.{ownerRights}
 use Rattle.lists.specs.declared.acl.Ace.{Ace}
-use Rattle.tokens.specs.Crowd.{Member, crowdAt}
+use Rattle.records.specs.Crowd.{Member, crowdAt}
 use Rattle.passes.specs.Marks.{dismissed, kept}
 use Rattle.passes.specs.Matching.{among}
 use Rattle.passes.specs.OnePass.{taken}
-use Rattle.passes.specs.OneWalk.{idle, walkedFrom, walkedOf}
+use Rattle.masks.specs.TheTally.{idle}
+use Rattle.passes.specs.OneWalk.{walkedFrom, walkedOf}
 use Rattle.passes.specs.Seats.{fromSeat}
 use Rattle.passes.specs.declared.matching.Hits.{Hits}
-use Rattle.passes.specs.declared.tally.Tally.{Tally}
+use Rattle.masks.specs.declared.tally.Tally.{Tally}
 use Rattle.passes.proofs.MatchingLaws.{matches-virtual, matches-among}
 use Rattle.passes.proofs.SearchLaws.{among-none, among-hit, among-last, among-more}
 use Rattle.passes.proofs.SeatsLaws.{crowd-start}
@@ -200,8 +201,8 @@ entries-again-2 c =
 is-virtual-requires : tie.Need-is-virtual-requires Inv-search μ-search Inv-entries μ-entries
 is-virtual-requires c κs = search needs
 
-answered-requires : tie.Need-answered-requires Inv-search μ-search Inv-entries μ-entries
-answered-requires c κs = search needs
+virtual-matches-requires : tie.Need-virtual-matches-requires Inv-search μ-search Inv-entries μ-entries
+virtual-matches-requires c κs = search needs
 
 step-requires : tie.Need-step-requires Inv-search μ-search Inv-entries μ-entries
 step-requires c κs = search needs
@@ -220,9 +221,9 @@ entries-again-3 c =
     ∙ c .before .before .before .before .before .before .before .before .before .if2 .left)
     (c .before .before .before .before .before .before .before .before .names .ensures)
     (c .step .ensures
-    ∙ taken-by (kind-of p) (crowd-of p) (hits-of p) (tally-of p) (entry-of p) (c .before .answered .result) (m .result .0) (m .ensures)
+    ∙ taken-by (kind-of p) (crowd-of p) (hits-of p) (tally-of p) (entry-of p) (c .before .virtual-matches .result) (m .result .0) (m .ensures)
     (sym (c .before .before .before .before .before .before .idle .ensures) ∙ c .before .before .before .before .before .if3 .left)
-    (c .before .answered .ensures ∙ sym mine))
+    (c .before .virtual-matches .ensures ∙ sym mine))
 
 search-holds : tie.Need-search-holds Inv-search μ-search Inv-entries μ-entries
 search-holds c =
@@ -347,7 +348,7 @@ pass-spec =
     entries-less-2
     entries-again-2
     is-virtual-requires
-    answered-requires
+    virtual-matches-requires
     step-requires
     entries-less-3
     entries-again-3

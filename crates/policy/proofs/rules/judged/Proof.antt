@@ -2,9 +2,9 @@
 use mathlib.Core.Bool.{true}
 use borrow.Author.Tests.{lt-ltb, le-ltb}
 use borrow.Author.Needs.{needs}
-use Rattle.tokens.specs.Crowd.{crowdAt}
+use Rattle.records.specs.Crowd.{crowdAt}
 use Rattle.policy.specs.Rules.{listsOf}
-use Rattle.policy.specs.Found.{keptLists}
+use Rattle.policy.specs.ByLengths.{keptLists}
 use Rattle.policy.proofs.RulesSteps.{judged-plain, judged-staged}
 use Rattle.policy.proofs.rules.judged.Statement.{statement}
 use Rattle.policy.proofs.rules.judged.Tie as tie

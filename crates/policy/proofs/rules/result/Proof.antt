@@ -2,7 +2,7 @@
 use mathlib.Core.Bool.{true}
 use borrow.Author.Needs.{needs}
 use Rattle.lists.specs.Acl.{entriesOf}
-use Rattle.tokens.specs.Crowd.{crowdAt}
+use Rattle.records.specs.Crowd.{crowdAt}
 use Rattle.passes.specs.Marks.{kept}
 use Rattle.policy.proofs.RulesSteps.{result-is}
 use Rattle.policy.proofs.rules.result.Statement.{statement}

@@ -5,10 +5,10 @@ use mathlib.Core.Path.{_≡_, sym, ap, _∙_}
 use mathlib.Core.Bool.{true}
 use native.Mathlib.Omega.{arith}
 use borrow.Author.Needs.{needs}
-use Rattle.tokens.specs.Crowd.{crowdAt}
+use Rattle.records.specs.Crowd.{crowdAt}
 use Rattle.passes.specs.Confinement.{everything}
 use Rattle.policy.specs.Rules.{ruled, ruledBy}
-use Rattle.policy.specs.Found.{foundOf, keptRules}
+use Rattle.policy.specs.ByLengths.{rulesByLengths, keptRules}
 use Rattle.policy.proofs.RulesSteps.{Left, left-end, left-stop, left-more}
 use Rattle.policy.proofs.rules.ruled_by.Statement.{statement}
 use Rattle.policy.proofs.rules.ruled_by.Tie as tie
@@ -16,7 +16,7 @@ use Rattle.policy.proofs.rules.ruled_by.Tie as tie
 abbrev Inv-loop : tie.InvT-loop
 Inv-loop s kind listing at table hits privileges n so-far₀ place₀ k₀ so-far place k =
     (k ≤ n)
-    × (ruledBy kind (crowdAt true listing at) hits privileges (keptRules table (foundOf s))
+    × (ruledBy kind (crowdAt true listing at) hits privileges (keptRules table (rulesByLengths s))
     ≡ Left kind (crowdAt true listing at) hits privileges table s so-far (n - k) place)
 
 abbrev μ-loop : tie.MeasureT-loop
@@ -35,15 +35,15 @@ loop-holds c =
           (omega (arith, c .u32-at .ensures)),
     )
 
-step-at-requires : tie.Need-step-at-requires Inv-loop μ-loop
-step-at-requires c κs = search needs
+rule-by-lengths-requires : tie.Need-rule-by-lengths-requires Inv-loop μ-loop
+rule-by-lengths-requires c κs = search needs
 
 returns : tie.Need-returns Inv-loop μ-loop
 returns c =
     let i = c .before .before .before .loop in
     let n = c .before .before .before .before in
     let a = n .before .before .before .args in
-    let r = c .before .step-at in
+    let r = c .before .rule-by-lengths in
     sym
     (i .inv .1
     ∙ left-stop (a .kind) (crowdAt true (a .listing .now) (a .at)) (a .hits) (a .privileges) (a .table .now)
@@ -63,7 +63,7 @@ loop-again c =
     let i = c .before .before .before .before .loop in
     let n = c .before .before .before .before .before in
     let a = n .before .before .before .args in
-    let r = c .before .before .step-at in (
+    let r = c .before .before .rule-by-lengths in (
       omega arith,
       i .inv .1
           ∙ left-more (a .kind) (crowdAt true (a .listing .now) (a .at)) (a .hits) (a .privileges) (a .table .now)
@@ -87,7 +87,7 @@ ruled-by-spec =
     μ-loop
     u32-at-requires
     loop-holds
-    step-at-requires
+    rule-by-lengths-requires
     returns
     judged-requires
     add-k

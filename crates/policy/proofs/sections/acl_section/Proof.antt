@@ -16,7 +16,7 @@ returns-2 : tie.Need-returns-2
 returns-2 c =
     let a = c .before .before .before .before .args in
     let e = c .before .before .acl-end .ensures .0 in
-    sym (acl-other (a .deep) (a .l .now) (λ q. c .before .if1 .left (e ∙ q)) (λ q. c .if2 .taken (e ∙ q)))
+    sym (acl-other (a .deep) (a .l .now) (λ q. c .before .if1 .left (e ∙ q)) (λ q. omega (arith, e, c .if2 .taken)))
 
 scan-entries-requires : tie.Need-scan-entries-requires
 scan-entries-requires c κs = search needs

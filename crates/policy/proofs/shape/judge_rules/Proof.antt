@@ -54,7 +54,7 @@ returns-2 : tie.Need-returns-2 Inv-loop μ-loop
 returns-2 c =
     let i = c .before .before .loop in
     let a = c .before .before .before .before .args in
-    sym (i .inv .1 ∙ rules-over (a .s .now) (i .unread) (a .n) (i .k) (i .at) (omega arith) (c .if2 .taken))
+    sym (i .inv .1 ∙ rules-over (a .s .now) (i .unread) (a .n) (i .k) (i .at) (omega arith) (λ q. omega (arith, c .if2 .taken)))
 
 returns-3 : tie.Need-returns-3 Inv-loop μ-loop
 returns-3 c =

@@ -6,7 +6,7 @@ use native.Mathlib.Omega.{arith}
 use borrow.Author.Needs.{needs}
 use lib.ListN.{length, drop, length-set}
 use lib.Seq.{sets}
-use Rattle.tokens.proofs.ConvertLaws.{copy-more, copy-done}
+use Rattle.base.proofs.WriteLaws.{copy-more, copy-done}
 use Rattle.tokens.proofs.flat.copy.Statement.{statement}
 use Rattle.tokens.proofs.flat.copy.Tie as tie
 

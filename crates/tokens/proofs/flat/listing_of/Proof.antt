@@ -3,9 +3,10 @@
 use native.Mathlib.Omega.{arith}
 use native.Mathlib.Nat.{le-trans}
 use lib.ListN.{replicate}
-use Rattle.base.proofs.BytesLaws.{bytes-of-lt}
-use Rattle.tokens.specs.TokenRecord.{readRecord}
-use Rattle.tokens.proofs.ConvertLaws.{unpacked-inside, part-short, buffer-room, listed-refused, listed-taken}
+use Rattle.base.proofs.BytesLaws.{bytes-of-lt, part-short}
+use Rattle.base.proofs.WriteLaws.{buffer-room}
+use Rattle.records.specs.TokenRecord.{readRecord}
+use Rattle.tokens.proofs.ConvertLaws.{unpacked-inside, listed-refused, listed-taken}
 use borrow.Author.Needs.{needs}
 use Rattle.tokens.proofs.flat.listing_of.Statement.{statement}
 use Rattle.tokens.proofs.flat.listing_of.Tie as tie

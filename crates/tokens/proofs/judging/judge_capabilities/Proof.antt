@@ -6,8 +6,8 @@ use mathlib.Core.Path.{_≡_, refl, sym, _∙_}
 use native.Mathlib.Omega.{arith}
 use borrow.Author.Needs.{needs}
 use lib.ListN.{length}
-use Rattle.tokens.specs.Fields.{many}
-use Rattle.tokens.specs.FlatListing.{flatIdentity}
+use Rattle.records.specs.Fields.{many}
+use Rattle.records.specs.FlatListing.{flatIdentity}
 use Rattle.tokens.specs.Judging.{told, seenOf}
 use Rattle.tokens.proofs.JudgeLaws.{identity-after, seenOn, capabilities-none, capabilities-stop, capabilities-step}
 use Rattle.tokens.proofs.judging.judge_capabilities.Statement.{statement}

@@ -37,7 +37,7 @@ head c = record {
 }
 
 returns-3 : tie.Need-returns-3
-returns-3 c = (sym (confinement-many (head (c .before)) (c .if3 .taken)), omega arith)
+returns-3 c = (sym (confinement-many (head (c .before)) (omega (arith, c .if3 .taken))), omega arith)
 
 add-judge-capabilities : tie.Need-add-judge-capabilities
 add-judge-capabilities c = search needs

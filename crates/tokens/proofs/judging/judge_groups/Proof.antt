@@ -6,9 +6,9 @@ use mathlib.Core.Path.{_≡_, refl, sym, _∙_}
 use native.Mathlib.Omega.{arith}
 use borrow.Author.Needs.{needs}
 use lib.ListN.{length}
-use Rattle.tokens.specs.Fields.{many, groupAt}
-use Rattle.tokens.specs.FlatListing.{flatReader}
-use Rattle.tokens.specs.TokenRules.{virtualGroup}
+use Rattle.records.specs.Fields.{many, groupAt}
+use Rattle.records.specs.FlatListing.{flatReader}
+use Rattle.records.specs.TokenRules.{virtualGroup}
 use Rattle.tokens.specs.Judging.{told}
 use Rattle.tokens.proofs.JudgeLaws.{identity-after, groupsOn, groups-none, groups-stop, groups-cut, groups-step}
 use Rattle.tokens.proofs.judging.judge_groups.Statement.{statement}

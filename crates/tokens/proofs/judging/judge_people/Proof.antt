@@ -5,18 +5,8 @@ use native.Mathlib.Omega.{arith}
 use Rattle.base.proofs.BytesLaws.{bytes-of-lt}
 use Rattle.tokens.specs.Judging.{judgedOf}
 use Rattle.tokens.proofs.JudgeLaws.{identity-after, Headed}
-use Rattle.tokens.proofs.JudgePeople.{
-  Grouped,
-  Peopled,
-  people-stop,
-  people-cut,
-  people-many,
-  people-lost,
-  people-restless,
-  people-longer,
-  people-broken,
-  people-kept,
-}
+use Rattle.tokens.proofs.JudgePeople.{Grouped, Peopled, people-stop, people-cut, people-many, people-lost, people-restless}
+use Rattle.tokens.proofs.JudgePeople.{people-longer, people-broken, people-kept}
 use borrow.Author.Needs.{needs}
 use Rattle.tokens.proofs.judging.judge_people.Statement.{statement}
 use Rattle.tokens.proofs.judging.judge_people.Tie as tie

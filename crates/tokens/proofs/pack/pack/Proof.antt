@@ -1,7 +1,7 @@
 -- `pack` meets its contract: each part of the record is written after the one before it, with room for the rest. Assumes nothing.
 use mathlib.Core.Path.{refl}
-use Rattle.tokens.proofs.PackRecordLaws.{record-room-1, record-room-2, record-room-3, record-room-4, record-room-5, wrote-plain}
-use Rattle.tokens.proofs.PackRecordLaws.{wrote-confined, flags-plain, flags-confined, rest-stands}
+use Rattle.records.proofs.PackRecordLaws.{record-room-1, record-room-2, record-room-3, record-room-4, record-room-5, wrote-plain}
+use Rattle.records.proofs.PackRecordLaws.{wrote-confined, flags-plain, flags-confined, rest-stands}
 use borrow.Author.Needs.{needs}
 use Rattle.tokens.proofs.pack.pack.Statement.{statement}
 use Rattle.tokens.proofs.pack.pack.Tie as tie

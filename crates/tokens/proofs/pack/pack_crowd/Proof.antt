@@ -5,11 +5,11 @@ use mathlib.Core.List.{_++_}
 use native.Mathlib.Omega.{arith}
 use Rattle.base.specs.Bytes.{u32At, part}
 use Rattle.base.specs.Sevens.{packed}
+use Rattle.base.proofs.WriteLaws.{room-first, room-after, wrote-append, wrote-same}
 use Rattle.lists.proofs.SidLaws.{sid-of-part}
-use Rattle.tokens.specs.TokenRecord.{packIdentity}
-use Rattle.tokens.specs.Packing.{membersBytes}
-use Rattle.tokens.proofs.WriteLaws.{room-first, room-after, wrote-append, wrote-same}
-use Rattle.tokens.proofs.PackLaws.{starts, crowd-is, crowd-end-is, crowd-members}
+use Rattle.records.specs.TokenRecord.{packIdentity}
+use Rattle.records.specs.Packing.{membersBytes}
+use Rattle.records.proofs.PackLaws.{starts, crowd-is, crowd-end-is, crowd-members}
 use borrow.Author.Needs.{needs}
 use Rattle.tokens.proofs.pack.pack_crowd.Statement.{statement}
 use Rattle.tokens.proofs.pack.pack_crowd.Tie as tie

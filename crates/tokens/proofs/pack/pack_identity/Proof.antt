@@ -3,10 +3,10 @@ use mathlib.Core.Path.{refl, sym}
 use mathlib.Core.List.{_++_}
 use native.Mathlib.Omega.{arith}
 use Rattle.base.specs.Sevens.{packed}
+use Rattle.base.proofs.WriteLaws.{room-first, room-after, wrote-append, wrote-same}
 use Rattle.lists.proofs.SidLaws.{sid-shape, is-sid-long}
-use Rattle.tokens.specs.TokenRecord.{packedWords}
-use Rattle.tokens.proofs.WriteLaws.{room-first, room-after, wrote-append, wrote-same}
-use Rattle.tokens.proofs.PackLaws.{identity-is}
+use Rattle.records.specs.TokenRecord.{packedWords}
+use Rattle.records.proofs.PackLaws.{identity-is}
 use borrow.Author.Needs.{needs}
 use Rattle.tokens.proofs.pack.pack_identity.Statement.{statement}
 use Rattle.tokens.proofs.pack.pack_identity.Tie as tie

@@ -3,9 +3,9 @@ use mathlib.Core.Path.{sym, _∙_}
 use native.Mathlib.Omega.{arith}
 use borrow.Author.Tests.{not-true, not-false}
 use Rattle.base.specs.Sevens.{packed}
+use Rattle.base.proofs.WriteLaws.{room-after, wrote-append, wrote-same}
 use Rattle.lists.proofs.SidLaws.{sid-of-part}
-use Rattle.tokens.proofs.WriteLaws.{room-after, wrote-append, wrote-same}
-use Rattle.tokens.proofs.PackLaws.{starts, member-word, member-plain, member-room, member-end-word, member-end-plain}
+use Rattle.records.proofs.PackLaws.{starts, member-word, member-plain, member-room, member-end-word, member-end-plain}
 use borrow.Author.Needs.{needs}
 use Rattle.tokens.proofs.pack.pack_member.Statement.{statement}
 use Rattle.tokens.proofs.pack.pack_member.Tie as tie
@@ -51,11 +51,8 @@ u32-at-requires c κs = search needs
 add-t11 : tie.Need-add-t11
 add-t11 c = search needs
 
-cast-put : tie.Need-cast-put
-cast-put c = search needs
-
-put-requires : tie.Need-put-requires
-put-requires c κs =
+pack-attributes-requires : tie.Need-pack-attributes-requires
+pack-attributes-requires c κs =
     let z = c .before .before .before .before .before .before .before .before in
     let e = c .before .before .before .before .before .before .sid-end in
     let v = c .before .u32-at in
@@ -70,7 +67,7 @@ returns-2 c =
     let z = c .before .before .before .before .before .before .before .before .before in
     let t = not-false (z .args .attrs) (c .before .before .before .if1 .left) in (
       wrote-same (sym (member-word _ _ _ _ _ t (e .ensures .0) (v .ensures)))
-          (wrote-append (c .before .before .before .before .pack-identity .ensures) (c .put .ensures)),
+          (wrote-append (c .before .before .before .before .pack-identity .ensures) (c .pack-attributes .ensures)),
       member-end-word _ _ _ _ t (e .ensures .0),
     )
 
@@ -86,6 +83,5 @@ pack-member-spec =
     returns
     u32-at-requires
     add-t11
-    cast-put
-    put-requires
+    pack-attributes-requires
     returns-2)

@@ -4,9 +4,9 @@ use Prim.Native.Nat.{_+_, _-_, _≤_}
 use mathlib.Core.Path.{_≡_, refl, sym, _∙_}
 use borrow.Author.Needs.{needs}
 use lib.ListN.{length}
-use Rattle.tokens.specs.Packing.{memberBytes, memberEnd, membersBytes, membersEnd, MembersStand}
-use Rattle.tokens.proofs.WriteLaws.{Left, left-start, left-room, left-step, left-done}
-use Rattle.tokens.proofs.PackLaws.{members-none, members-more, members-end-none, members-end-more, stand-first, stand-more}
+use Rattle.base.proofs.WriteLaws.{Left, left-start, left-room, left-step, left-done}
+use Rattle.records.specs.Packing.{memberBytes, memberEnd, membersBytes, membersEnd, MembersStand}
+use Rattle.records.proofs.PackLaws.{members-none, members-more, members-end-none, members-end-more, stand-first, stand-more}
 use Rattle.tokens.proofs.pack.pack_members.Statement.{statement}
 use Rattle.tokens.proofs.pack.pack_members.Tie as tie
 

@@ -5,9 +5,9 @@ use native.Mathlib.Omega.{arith}
 use borrow.Author.Needs.{needs}
 use lib.ListN.{length}
 use Rattle.base.specs.Sevens.{packed}
-use Rattle.tokens.specs.TokenRecord.{packedWords}
-use Rattle.tokens.proofs.WriteLaws.{Left, left-start, left-room, left-step, left-done}
-use Rattle.tokens.proofs.PackLaws.{words-none, words-more}
+use Rattle.base.proofs.WriteLaws.{Left, left-start, left-room, left-step, left-done}
+use Rattle.records.specs.TokenRecord.{packedWords}
+use Rattle.records.proofs.PackLaws.{words-none, words-more}
 use Rattle.tokens.proofs.pack.pack_words.Statement.{statement}
 use Rattle.tokens.proofs.pack.pack_words.Tie as tie
 

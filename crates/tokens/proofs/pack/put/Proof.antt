@@ -3,7 +3,7 @@
 use borrow.Author.Needs.{needs}
 use native.Mathlib.Omega.{arith}
 use Prim.Native.Nat.{_^_, _<_}
-use Rattle.tokens.proofs.WriteLaws.{Writes, writes-start, writes-room, writes-more, writes-last}
+use Rattle.base.proofs.WriteLaws.{Writes, writes-start, writes-room, writes-more, writes-last}
 use Rattle.tokens.proofs.pack.put.Statement.{statement}
 use Rattle.tokens.proofs.pack.put.Tie as tie
 

@@ -4,10 +4,9 @@ use Prim.Native.Nat.{ℕ}
 use mathlib.Core.Path.{ap, _∙_}
 use lib.ListN.{length, replicate}
 use lib.Seq.{sets}
-use Rattle.base.proofs.BytesLaws.{bytes-of-lt}
-use Rattle.tokens.specs.Packing.{recordBytes}
-use Rattle.tokens.proofs.WriteLaws.{wrote-length, wrote-inside}
-use Rattle.tokens.proofs.ConvertLaws.{buffer-room, unpacked-front, part-front}
+use Rattle.base.proofs.BytesLaws.{bytes-of-lt, part-front}
+use Rattle.base.proofs.WriteLaws.{wrote-length, wrote-inside, buffer-room, sets-front}
+use Rattle.records.specs.Packing.{recordBytes}
 use Rattle.tokens.proofs.ToRecordLaws.{judged-packable, fitted-refused, fitted-longer, fitted-within}
 use borrow.Author.Needs.{needs}
 use Rattle.tokens.proofs.pack.to_record.Statement.{statement}
@@ -78,7 +77,7 @@ returns-3 c =
     let r = buffer-room (p .result) 28021 (rw n m) in
     let w =
     part-front (p .last .1 .0) (p .result)
-    ∙ unpacked-front (replicate 28021 0) (p .last .1 .0) (recordBytes (a .s .now)) (p .result) n (p .ensures .bytes) r in (
+    ∙ sets-front (replicate 28021 0) (p .last .1 .0) (recordBytes (a .s .now)) (p .result) n (p .ensures .bytes) r in (
       rw f (ap (λ (m : ℕ). record { status = 0; length = m }) n),
       rw f (c .before .before .copy .ensures ∙ ap (sets (a .out .now) 0) w),
     )

@@ -1,0 +1,9 @@
+-- Worked questions, by computation over the definitions.
+-- every definition that is computed with, opened by one name
+mod Opened
+-- the starred cards and worked refusals
+pub mod CardsHold
+-- the dummies that demand 2 shuts out
+pub mod Dummies
+-- pairs of questions that meet the conditions of demand 3
+pub mod DemandThreeMet

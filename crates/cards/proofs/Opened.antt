@@ -1,0 +1,41 @@
+-- Every definition that a worked question computes with, opened by one name: a proof by computation says `unfolding the-page`.
+-- A definition that is new in the page's files and marked `unfoldable` is entered here. Assumes nothing.
+use mathlib.Core.Bool.{Bool, true}
+use Rattle.base.specs.Bytes.{u16At, u32At, same, little, big, u48BeAt}
+use Rattle.base.specs.Sevens.{more, groups, within, placed, number}
+use Rattle.lists.specs.Sid.{sidEnd, isSid}
+use Rattle.lists.specs.Acl.{aclEnd, headEnd, holds, entryEnd, shaped, foreign, scanOf, aceAt, entriesAt, entriesOf}
+use Rattle.lists.specs.Descriptor as descriptor
+use Rattle.lists.specs.Descriptor.{heading, sidPiece, aclPiece, judged, partsOf}
+use Rattle.records.specs.Fields.{many, groupAt, confinementAt, peopleAt, fieldsAt, each, peopleBytes, confinementBytes, fieldsBytes}
+use Rattle.records.specs.TokenRecord.{packedIdentity, readRecord}
+use Rattle.records.specs.FlatListing.{listingOf}
+use Rattle.records.specs.TokenRules.{virtualGroup, virtualIn, lists, exemptAlone, virtualStands, unrestricted, keeps}
+use Rattle.records.specs.Converters.{asListing, fitted}
+use Rattle.masks.specs.KindsAndMasks.{right, mapped, entryMask, legal, explicit, asked}
+use Rattle.passes.specs.Matching.{among, stands, hitsOf, matches}
+use Rattle.passes.specs.OnePass.{taken, run}
+use Rattle.passes.specs.NormalEvaluation.{namesOwner, normalOf}
+use Rattle.passes.specs.Confinement.{confinementOf}
+use Rattle.policy.specs.Policy as policy
+use Rattle.policy.specs.Policy.{sectionAt, aclSection, maybeAcl, ruleOf, ruleAt, rulesShaped, rulesUnread, standingOf}
+use Rattle.policy.specs.Rules.{rulesAt, rulesOf, judgedBy, ruledFrom}
+use Rattle.access.specs.Granted.{foundOf, answerOf}
+use Rattle.access.specs.Status.{selfFits, afterToken, checked}
+use Rattle.access.specs.QuestionFile.{blobAt, questionOf, fileAnswer}
+use Rattle.demands.specs.Strangers.{inGroups, known, struck}
+use Rattle.cards.specs.Cards.{manyRules}
+
+-- the value says nothing: what counts is the line below
+unfoldable pub the-page : Bool
+unfolding
+    u16At u32At same little big u48BeAt more groups within placed number
+    sidEnd isSid aclEnd headEnd holds entryEnd shaped foreign scanOf aceAt entriesAt entriesOf
+    descriptor.numberOf heading sidPiece aclPiece judged partsOf
+    many groupAt confinementAt peopleAt fieldsAt each peopleBytes confinementBytes fieldsBytes packedIdentity readRecord listingOf
+    virtualGroup virtualIn lists exemptAlone virtualStands unrestricted keeps asListing fitted
+    right mapped entryMask legal explicit asked among stands hitsOf matches taken run namesOwner normalOf confinementOf
+    policy.numberOf sectionAt aclSection maybeAcl ruleOf ruleAt rulesShaped rulesUnread standingOf rulesAt rulesOf judgedBy ruledFrom
+    foundOf answerOf selfFits afterToken checked blobAt questionOf fileAnswer
+    inGroups known struck manyRules
+the-page = true

@@ -1,0 +1,2 @@
+-- The bench cards as bytes.
+pub mod Cards

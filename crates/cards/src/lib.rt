@@ -1,0 +1,1 @@
+// The bench cards and other worked questions: no code, only answers by computation.

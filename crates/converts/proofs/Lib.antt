@@ -1,0 +1,2 @@
+-- Laws of buffers.
+mod BuffersLaws

@@ -1,0 +1,2 @@
+-- What the cases change.
+pub mod Changes

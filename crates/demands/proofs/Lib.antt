@@ -1,0 +1,13 @@
+-- What is proved of the answers, over the definitions.
+-- accepted questions have the answer of the rules
+pub mod AcceptedLaws
+-- the numbers of descriptor and policy, of the whole question, of the question file and of the converters
+pub mod NumbersLaws
+pub mod StatusLaws
+pub mod FileLaws
+pub mod ConverterLaws
+-- demand 3
+pub mod StrangersLaws
+pub mod GainLaws
+-- what a reader of the page expects
+pub mod ReaderLaws

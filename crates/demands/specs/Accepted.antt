@@ -1,0 +1,33 @@
+-- An accepted question, and what demand 2 says of it: "the granted mask, the allowed answer and the staging flag are those of the rules".
+use mathlib.Core.Path.{_≡_}
+use mathlib.Core.List.{[]}
+use mathlib.Core.Bool.{false}
+use Rattle.base.specs.Bytes.{Read}
+use Rattle.base.specs.Bytes.Read.{none, some}
+use Rattle.records.specs.Token.{Token, unconfined}
+use Rattle.records.specs.TokenRecord.{readRecord}
+use Rattle.access.specs.Granted.{answerOf}
+use Rattle.access.specs.Status.{Question, findings, checked}
+use Rattle.access.specs.declared.answer.Answer.{Answer}
+
+abbrev pub Accepted : Question → Type 0
+Accepted q = checked q .status ≡ 0
+
+-- "A refused check grants no right and sets no flag"
+pub record GrantsNothing (a : Answer) : Type 0 where
+  pub granted : a .granted .0 ≡ 0
+  pub allowed : a .allowed ≡ false
+  pub staged : a .staged ≡ false
+
+-- the token that a record holds. An accepted question has one; for a misshapen record a token of nobody stands here, and nothing is
+-- said of it
+abbrev pub tokenOf : Read Token → Token
+tokenOf none = record { flags = 0; privileges = 0; user = []; groups = []; confinement = unconfined }
+tokenOf (some t end) = t
+
+abbrev pub tokenIn : Question → Token
+tokenIn q = tokenOf (readRecord (q .token))
+
+-- what the rules answer for a token, with no word on refusals
+abbrev pub byRules : Question → Token → Answer
+byRules q t = answerOf (q .kind) (q .mask) (findings (q .kind) t (q .self) (q .descriptor) (q .policy))

@@ -1,0 +1,9 @@
+-- The words of the demands, over the definitions of the check.
+-- accepted questions, and the answer of the rules
+pub mod Accepted
+-- the table of status numbers, line by line
+pub mod Conditions
+-- the converters: their numbers line by line, and what they write
+pub mod Conversions
+-- demand 3's words: strangers
+pub mod Strangers

@@ -1,0 +1,73 @@
+-- Demand 3's words. "Entries naming nobody of the token and no virtual identity": a stranger's. Nobody of the token: not the user, no listed group
+-- whatever its attributes, not the confinement identity, no capability.
+use Prim.Native.Nat.{ℕ}
+use mathlib.Core.Path.{_≡_}
+use mathlib.Core.List.{List, [], _∷_, _++_}
+use mathlib.Core.Bool.{Bool, true, false, cond, _||_}
+use Rattle.base.specs.Bytes.{same}
+use Rattle.lists.specs.Acl.{Entry}
+use Rattle.lists.specs.Descriptor.{ownerOf}
+use Rattle.records.specs.Token.{Group, Token}
+use Rattle.records.specs.TokenRules.{lists}
+use Rattle.lists.specs.Sid.{virtual}
+use Rattle.policy.specs.Rules.{Lists, rulesOf}
+use Rattle.access.specs.Status.{Question, daclIn}
+use Rattle.demands.specs.Accepted.{tokenIn}
+
+unfoldable pub inGroups : List ℕ → List Group → Bool
+inGroups w [] = false
+inGroups w (g ∷ gs) = let r = inGroups w gs in cond (same (g .sid) w) true r
+
+-- somebody of the token, or a virtual identity
+unfoldable pub known : Token → List ℕ → Bool
+known t w =
+    same (t .user) w
+    || inGroups w (t .groups)
+    || same (t .confinement .identity) w
+    || lists w (t .confinement .capabilities)
+    || virtual w
+
+-- a list with the strangers' entries struck out
+unfoldable pub struck : Token → List Entry → List Entry
+struck t [] = []
+struck t (e ∷ es) = let r = struck t es in cond (known t (e .sid)) (e ∷ r) r
+
+-- two lists of rules, as many, with staged lists in the same ones, whose lists read the same once strangers are struck out
+pub data AlikeRules (t : Token) : List Lists → List Lists → Type 0 where
+  no-rules : AlikeRules t [] []
+  one-more :
+      {r q : Lists} {rs qs : List Lists} →
+      struck t (r .effective) ≡ struck t (q .effective) →
+      r .stages ≡ q .stages →
+      struck t (r .staged) ≡ struck t (q .staged) →
+      AlikeRules t rs qs →
+      AlikeRules t (r ∷ rs) (q ∷ qs)
+
+-- "two accepted checks alike in token, object kind, mask, self identity and owner; alike in whether the access list is present; with as many policy
+-- rules, and staged lists in the same ones", every list reading the same once strangers are struck out
+pub record SameButStrangers (p q : Question) : Type 0 where
+  pub kind : p .kind ≡ q .kind
+  pub mask : p .mask ≡ q .mask
+  pub token : p .token ≡ q .token
+  pub self : p .self ≡ q .self
+  pub owner : ownerOf (p .descriptor) ≡ ownerOf (q .descriptor)
+  pub present : daclIn (p .descriptor) .present ≡ daclIn (q .descriptor) .present
+  pub list : struck (tokenIn p) (daclIn (p .descriptor) .entries) ≡ struck (tokenIn p) (daclIn (q .descriptor) .entries)
+  pub rules : AlikeRules (tokenIn p) (rulesOf (p .policy)) (rulesOf (q .policy))
+
+-- "a policy that gains one rule anywhere"
+pub record GainsRule (p q : List ℕ) : Type 0 where
+  pub before : List Lists
+  pub gained : Lists
+  pub after : List Lists
+  pub old : rulesOf p ≡ before ++ after
+  pub new : rulesOf q ≡ before ++ gained ∷ after
+
+-- two questions that are the same but for a rule that the second policy has gained
+pub record SameButOneRule (p q : Question) : Type 0 where
+  pub kind : p .kind ≡ q .kind
+  pub mask : p .mask ≡ q .mask
+  pub token : p .token ≡ q .token
+  pub self : p .self ≡ q .self
+  pub descriptor : p .descriptor ≡ q .descriptor
+  pub policy : GainsRule (p .policy) (q .policy)

@@ -1,0 +1,3 @@
+-- The laws of masks and of the tally.
+pub mod MasksLaws
+pub mod TallyLaws

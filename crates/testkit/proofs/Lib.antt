@@ -1,0 +1,2 @@
+-- Laws of what the programs that are tests share.
+mod TextLaws

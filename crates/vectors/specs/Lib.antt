@@ -1,0 +1,2 @@
+-- What a line of a case says.
+pub mod Line
