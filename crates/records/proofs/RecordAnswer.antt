@@ -1,13 +1,13 @@
 -- What the whole record comes to, by what the code read of it: version, flags and privileges first, then the people.
 -- Assumes nothing.
-use Prim.Native.Nat.{ℕ, _+_}
+use Prim.Native.Nat.{ℕ, _+_, _<_}
 use mathlib.Core.Path.{_≡_, refl, sym, ap, _∙_}
 use mathlib.Core.List.{List, _++_}
 use mathlib.Core.Bool.{true, false, not}
 use native.Mathlib.Nat.{zero-add}
 use native.Mathlib.Omega.{arith}
 use borrow.Author.Tests.{not-true, not-false, eq-eqb, ne-eqb}
-use lib.ListN.{length}
+use lib.ListN.{length, replicate}
 use lib.Seq.{sets}
 use Rattle.base.specs.Bytes.{Read, bind, little}
 use Rattle.base.specs.Bytes.Read.{none, some}
@@ -15,10 +15,10 @@ use Rattle.base.specs.Sevens.{number, numOf}
 use Rattle.base.specs.declared.sevens.Num.{Num}
 use Rattle.base.proofs.ReadLaws.{num-some, num-none}
 use Rattle.records.specs.Token.{Token}
-use Rattle.records.specs.Fields.{peopleAt, ended}
+use Rattle.records.specs.Fields.{peopleAt, ended, fieldsBytes}
 use Rattle.records.specs.TokenRecord.{packedReader, readRecord}
 use Rattle.records.specs.FlatListing.{listingOf}
-use Rattle.records.specs.Unpacking.{written, outcome, limited, peopleCopied, Unpacked}
+use Rattle.records.specs.Unpacking.{written, outcome, limited, peopleCopied, Unpacks, Unpacked}
 use Rattle.records.specs.Unpacking.Outcome.{refused, done}
 use Rattle.records.proofs.UnpackLaws.{then-some}
 use Rattle.records.proofs.RecordBytes.{listing-is, fields-is}
@@ -27,14 +27,14 @@ use Rattle.records.proofs.RecordBytes.{listing-is, fields-is}
 
 -- from what the reading of the fields comes to
 module _ (s entry exit : List ℕ) where
-  ended-refused : (q : Read Token) → outcome (written listingOf q) entry 0 ≡ refused → Unpacked (ended s q) entry exit 0
+  ended-refused : (q : Read Token) → outcome (written listingOf q) entry 0 ≡ refused → Unpacks (ended s q) entry exit 0
   unfolding outcome
   ended-refused none e = refl
   ended-refused (some t end) e = let z : _≡_ {A = ℕ} 0 1 = cc in absurd (omega arith)
 
   module _ (to next : ℕ) where
     ended-longer : (q : Read Token) → outcome (written listingOf q) entry 0 ≡ done exit to next → (next ≡ length s → ⊥) →
-        Unpacked (ended s q) entry exit 0
+        Unpacks (ended s q) entry exit 0
     unfolding outcome
     ended-longer none e h = refl
     ended-longer (some t end) e h =
@@ -42,7 +42,7 @@ module _ (s entry exit : List ℕ) where
         rw (k, ne-eqb next (length s) h) refl
 
     ended-done : (q : Read Token) → outcome (written listingOf q) entry 0 ≡ done exit to next → next
-        ≡ length s → Unpacked (ended s q) entry exit to
+        ≡ length s → Unpacks (ended s q) entry exit to
     unfolding outcome
     ended-done none e h = let z : _≡_ {A = ℕ} 0 1 = cc in absurd (omega arith)
     ended-done (some t end) e h =
@@ -62,11 +62,11 @@ pub record Heading (s : List ℕ) (v f p : Num) : Type 0 where
   pub privileged : not (p .ok) ≡ false
 
 module _ (s entry exit : List ℕ) (v : Num) (is : v ≡ numOf (number 32 s 0)) where
-  pub record-unversioned : not (v .ok) ≡ true → Unpacked (readRecord s) entry exit 0
+  pub record-unversioned : not (v .ok) ≡ true → Unpacks (readRecord s) entry exit 0
   unfolding readRecord
   record-unversioned h = rw (num-none (number 32 s 0) v is (not-true (v .ok) h)) refl
 
-  pub record-version : not (v .ok) ≡ false → (v .value ≡ 1 → ⊥) → Unpacked (readRecord s) entry exit 0
+  pub record-version : not (v .ok) ≡ false → (v .value ≡ 1 → ⊥) → Unpacks (readRecord s) entry exit 0
   unfolding readRecord
   record-version found h = rw (num-some (number 32 s 0) v is (not-false (v .ok) found), ne-eqb (v .value) 1 h) refl
 
@@ -78,11 +78,11 @@ record-is s v is found one =
 
 module _ (s entry exit : List ℕ) (v : Num) (is : v ≡ numOf (number 32 s 0)) (found : not (v .ok) ≡ false) (one : v .value ≡ 1)
     (f : Num) (such : f ≡ numOf (limited 3 s (v .next))) where
-  pub record-flags : not (f .ok) ≡ true → Unpacked (readRecord s) entry exit 0
+  pub record-flags : not (f .ok) ≡ true → Unpacks (readRecord s) entry exit 0
   record-flags h = rw (record-is s v is found one, num-none (limited 3 s (v .next)) f such (not-true (f .ok) h)) refl
 
   pub record-privileges : not (f .ok) ≡ false → (p : Num) → p ≡ numOf (number 64 s (f .next)) → not (p .ok) ≡ true →
-      Unpacked (readRecord s) entry exit 0
+      Unpacks (readRecord s) entry exit 0
   record-privileges flagged p so h =
       rw (
         record-is s v is found one,
@@ -113,12 +113,28 @@ module _ {s : List ℕ} {v f p : Num} (h : Heading s v f p) where
         ∙ then-some (peopleCopied (f .value) s) entry 0 (little 4 (f .value) ++ little 8 (p .value)) (p .next)
         ∙ ap (λ (l : List ℕ). outcome (peopleCopied (f .value) s (p .next)) l 12) (sym made)
 
-    pub record-refused : outcome (peopleCopied (f .value) s (p .next)) middle 12 ≡ refused → Unpacked (readRecord s) entry exit 0
+    pub record-refused : outcome (peopleCopied (f .value) s (p .next)) middle 12 ≡ refused → Unpacks (readRecord s) entry exit 0
     record-refused e = rw record-people (ended-refused s entry exit people (people-outcome ∙ e))
 
     module _ (to next : ℕ) (e : outcome (peopleCopied (f .value) s (p .next)) middle 12 ≡ done exit to next) where
-      pub record-longer : (next ≡ length s → ⊥) → Unpacked (readRecord s) entry exit 0
+      pub record-longer : (next ≡ length s → ⊥) → Unpacks (readRecord s) entry exit 0
       record-longer k = rw record-people (ended-longer s entry exit to next people (people-outcome ∙ e) k)
 
-      pub record-done : next ≡ length s → Unpacked (readRecord s) entry exit to
+      pub record-done : next ≡ length s → Unpacks (readRecord s) entry exit to
       record-done k = rw record-people (ended-done s entry exit to next people (people-outcome ∙ e) k)
+
+-- ---- a refusal leaves the buffer empty
+
+-- a listing has bytes
+listing-some : (t : Token) → 0 < length (listingOf t)
+unfolding listingOf fieldsBytes little
+listing-some t = omega arith
+
+module _ (entry exit : List ℕ) (r : ℕ) where
+  pub unpacked-none : (q : Read Token) → Unpacks q entry exit r → r ≡ 0 → Unpacked q entry (replicate 22940 0) r
+  unpacked-none none u z = (u, refl)
+  unpacked-none (some t end) u z = absurd (omega (arith, u .0, listing-some t))
+
+  pub unpacked-some : (q : Read Token) → Unpacks q entry exit r → (r ≡ 0 → ⊥) → Unpacked q entry exit r
+  unpacked-some none u h = absurd (h u)
+  unpacked-some (some t end) u h = u

@@ -3,7 +3,7 @@ use Prim.Native.Nat.{ℕ, zero, suc, _+_, _*_}
 use mathlib.Core.Path.{_≡_}
 use mathlib.Core.List.{List, [], _++_}
 use mathlib.Core.Bool.{Bool, true, false, cond}
-use lib.ListN.{length}
+use lib.ListN.{length, replicate}
 use lib.Seq.{sets}
 use lib.Dec.{leb}
 use Rattle.base.specs.Bytes.{Read, bind, only, little}
@@ -85,7 +85,13 @@ groupsCopied flags s at = counted 256 s at (λ n a. then (copied (memberCopied t
 unfoldable pub peopleCopied : ℕ → List ℕ → ℕ → Read (List ℕ)
 peopleCopied flags s at = then (packedIdentity s at) (groupsCopied flags s)
 
--- the whole: the length of the listing, which stands at the front of the buffer; 0 where the record is misshapen
+-- the whole: the length of the listing, which stands at the front of the buffer; 0 where the record is misshapen, and then nothing is said of
+-- the buffer
+abbrev pub Unpacks : Read Token → List ℕ → List ℕ → ℕ → Type 0
+Unpacks none entry exit r = r ≡ 0
+Unpacks (some t end) entry exit r = (r ≡ length (listingOf t)) × (exit ≡ sets entry 0 (listingOf t))
+
+-- the same with a buffer that a refusal leaves empty
 abbrev pub Unpacked : Read Token → List ℕ → List ℕ → ℕ → Type 0
-Unpacked none entry exit r = r ≡ 0
+Unpacked none entry exit r = (r ≡ 0) × (exit ≡ replicate 22940 0)
 Unpacked (some t end) entry exit r = (r ≡ length (listingOf t)) × (exit ≡ sets entry 0 (listingOf t))

@@ -1,5 +1,5 @@
 // From a packed record to a flat listing, in one pass: each number is written as it is read.
-// What a refused record leaves in the buffer nobody reads.
+// A refused record leaves the buffer empty.
 ghost use mathlib.Core.Path.{_≡_};
 ghost use Prim.Native.Nat.{_+_, _*_, _≤_, _<_};
 ghost use lib.Seq.{sets};
@@ -8,7 +8,7 @@ ghost use Rattle.base.specs.Sevens.{numOf};
 ghost use Rattle.records.specs.TokenRecord.{packedIdentity, readRecord};
 ghost use Rattle.records.specs.Unpacking.{outcome, copied, limited, wordAt, membersRoom};
 ghost use Rattle.records.specs.Unpacking.{memberCopied, confinementCopied, peopleCopied};
-ghost use Rattle.records.specs.Unpacking.{Unpacked, left};
+ghost use Rattle.records.specs.Unpacking.{Unpacked, Unpacks, left};
 use crate::Attributes;
 use base::Num;
 
@@ -228,10 +228,10 @@ fn unpack_people(s: &[u8], at: usize, flags: u64, out: &mut [u8; 22940]) -> Step
     unpack_confinement(s, g.next, out, g.to)
 }
 
-// The whole record: the length of its listing, or 0 where it is misshapen; then nothing is said of
-// `out`, which holds what was unpacked before the fault.
-pub fn unpack(s: &[u8], out: &mut [u8; 22940]) -> usize
-    ensures { λ r. ⌜ Unpacked (readRecord (now (s .entry))) (now (out .entry)) (now (out .exit)) r ⌝ }
+// The whole record: the length of its listing, or 0 where it is misshapen; then `out` holds what was
+// unpacked before the fault.
+fn unpack_record(s: &[u8], out: &mut [u8; 22940]) -> usize
+    ensures { λ r. ⌜ Unpacks (readRecord (now (s .entry))) (now (out .entry)) (now (out .exit)) r ⌝ }
     ensures { λ r. ⌜ r ≤ 22940 ⌝ }
 {
     let version = base::number32(s, 0);
@@ -259,4 +259,17 @@ pub fn unpack(s: &[u8], out: &mut [u8; 22940]) -> usize
         return 0;
     }
     w.to
+}
+
+// The listing of a packed record, written to the front of `out`: its length. A misshapen record has
+// length 0, and `out` is then all zeros.
+pub fn unpack(s: &[u8], out: &mut [u8; 22940]) -> usize
+    ensures { λ r. ⌜ Unpacked (readRecord (now (s .entry))) (now (out .entry)) (now (out .exit)) r ⌝ }
+    ensures { λ r. ⌜ r ≤ 22940 ⌝ }
+{
+    let n = unpack_record(s, out);
+    if n == 0 {
+        *out = [0u8; 22940];
+    }
+    n
 }

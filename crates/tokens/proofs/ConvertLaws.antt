@@ -32,7 +32,7 @@ use Rattle.tokens.proofs.JudgePeople.{listing-cut}
 
 -- what was written lies in the buffer
 pub unpacked-inside : (q : Read Token) (entry exit : List ℕ) (n : ℕ) → Unpacked q entry exit n → n ≤ length entry → n ≤ length exit
-unpacked-inside none entry exit n u h = omega arith
+unpacked-inside none entry exit n u h = omega (arith, u .0)
 unpacked-inside (some t end) entry exit n u h =
     let l : length exit ≡ length entry = ap length (u .1) ∙ length-sets entry 0 (listingOf t) in
     omega arith
@@ -41,7 +41,7 @@ module _ (s entry exit : List ℕ) (n : ℕ) (bytes : T (areBytes s)) (room : n 
   judged-go : (q : Read Token) → readRecord s ≡ q → Unpacked q entry exit n → judgedOf (readListing (part exit 0 n)) ≡ judgedOf q
   unfolding judgedOf
   judged-go none e u =
-      let z : part exit 0 n ≡ [] = part-front exit n ∙ ap (λ (k : ℕ). take k exit) u in
+      let z : part exit 0 n ≡ [] = part-front exit n ∙ ap (λ (k : ℕ). take k exit) (u .0) in
       rw (z, listing-cut [] (omega arith))
   judged-go (some t end) e u =
       let w : part exit 0 n ≡ listingOf t = part-front exit n ∙ sets-front entry exit (listingOf t) n (u .0) (u .1) room in
