@@ -1,5 +1,5 @@
 -- The laws of this crate's definitions, for the proofs of its callers.
--- tests joined
+-- a test that both holds and fails
 pub mod BoolLaws
 -- equal bytes, and parts of a list
 pub mod BytesLaws

@@ -3,7 +3,7 @@
 -- only where it is named.
 -- Assumes nothing.
 use Prim.Native.Nat.{ℕ, _^_, _<_, _≤_}
-use mathlib.Core.Bool.{Bool, true, false, cond, _&&_, _||_}
+use mathlib.Core.Bool.{Bool, true, false, cond, _&&_, _||_, and-false, or-false, or-true}
 use mathlib.Core.List.{[]}
 use mathlib.Core.Path.{_≡_, refl, sym, ap, _∙_}
 use native.Mathlib.Omega.{arith}
@@ -14,7 +14,7 @@ use Rattle.base.proofs.BitLaws.{and-bit, or-bit, zero-bit, high-bit}
 use Rattle.base.proofs.BitsLaws.{and-within, and-within-r, or-within, or-within-l, or-within-r, covers-within, within-and}
 use Rattle.base.specs.Bits.{and, or, flip, has, bit, Within}
 use Rattle.masks.specs.KindsAndMasks.{table, right, allBits, mapped, entryMask, legal, explicit, asked, systemSecurity, maximum}
-use Rattle.base.proofs.BoolLaws.{true-false, and-false, or-false, or-true}
+use Rattle.base.proofs.BoolLaws.{true-false}
 
 -- ---- what holds of both rows of the table holds of every kind
 

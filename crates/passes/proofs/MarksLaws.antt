@@ -2,7 +2,7 @@
 -- the entries that it keeps answers as a walk over all. Last the laws that callers of `pass` cite.
 -- Assumes nothing.
 use Prim.Native.Nat.{ℕ, zero, suc, _+_, _-_, _*_, _%_, _<_}
-use mathlib.Core.Bool.{Bool, true, false, cond, _&&_}
+use mathlib.Core.Bool.{Bool, true, false, cond, _&&_, and-false}
 use mathlib.Core.List.{List, [], _∷_}
 use mathlib.Core.Path.{_≡_, refl, sym, ap, ap₂, _∙_}
 use native.Mathlib.Nat.{mod-lt}
@@ -25,7 +25,7 @@ use Rattle.passes.specs.OneWalk.{walkedBy, walkedOf}
 use Rattle.passes.specs.declared.matching.Hits.{Hits}
 use Rattle.masks.specs.declared.tally.Tally.{Tally}
 use Rattle.passes.specs.declared.walk.Walked.{Walked}
-use Rattle.base.proofs.BoolLaws.{and-false, true-false}
+use Rattle.base.proofs.BoolLaws.{true-false}
 use Rattle.passes.proofs.MatchingLaws.{matches-among}
 
 -- ---- a mark stays

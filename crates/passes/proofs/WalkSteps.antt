@@ -1,7 +1,7 @@
 -- One turn of the pass, by the way that it takes: no entry stands, the table dismisses it, or it steps the tally on.
 -- Assumes nothing.
 use Prim.Native.Nat.{ℕ, suc, _-_}
-use mathlib.Core.Bool.{Bool, true, false, cond, _||_}
+use mathlib.Core.Bool.{Bool, true, false, cond, _||_, or-false}
 use mathlib.Core.List.{List, [], _∷_}
 use mathlib.Core.Path.{_≡_, refl, sym, ap, ap₂, _∙_}
 use native.Mathlib.Omega.{arith}
@@ -21,7 +21,6 @@ use Rattle.passes.specs.OnePass.{allows, taken, run}
 use Rattle.passes.specs.OneWalk.{walkedBy, walkedFrom, walkedOf}
 use Rattle.passes.specs.declared.matching.Hits.{Hits}
 use Rattle.masks.specs.declared.tally.Tally.{Tally}
-use Rattle.base.proofs.BoolLaws.{or-false}
 use Rattle.masks.proofs.TallyLaws.{allowing-decided, denying-decided}
 
 -- ---- the tally

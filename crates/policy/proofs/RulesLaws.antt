@@ -5,12 +5,11 @@
 use Prim.Native.Nat.{ℕ, _^_, _<_, _≤_}
 use mathlib.Core.Path.{_≡_, refl, sym, ap, ap₂, _∙_}
 use mathlib.Core.List.{List, [], _∷_, _++_}
-use mathlib.Core.Bool.{Bool, true, false, cond, not, xor, _&&_, _||_}
+use mathlib.Core.Bool.{Bool, true, false, cond, not, xor, _&&_, _||_, and-true, or-false, or-assoc, and-assoc}
 use native.Mathlib.Omega.{arith}
 use lib.Bits as B
 use Rattle.base.specs.Bits.{and, or, differ, has, bit, Within}
 use Rattle.base.proofs.BitLaws as base
-use Rattle.base.proofs.BoolLaws.{and-true, or-false, or-assoc}
 use Rattle.lists.specs.Acl.{Entry}
 use Rattle.records.specs.Crowd.{Member}
 use Rattle.passes.specs.Confinement.{everything}
@@ -31,10 +30,6 @@ use Rattle.policy.specs.declared.shape.Standing.the-variants.{Sound}
 use Rattle.policy.proofs.PolicyLaws.{sound-by-lengths}
 
 -- ---- tests
-
-and-assoc : (a b c : Bool) → ((a && b) && c) ≡ (a && (b && c))
-and-assoc true b c = refl
-and-assoc false b c = refl
 
 -- a test that may be left out holds no less often without
 and-skip : (a b c : Bool) → (a && (b && c)) ≡ true → (a && c) ≡ true

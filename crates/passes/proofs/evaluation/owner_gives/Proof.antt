@@ -1,8 +1,7 @@
 -- `owner_gives` meets its contract, one return for each way through its two tests.
 -- Assumes nothing.
-use mathlib.Core.Bool.{Bool, cond}
+use mathlib.Core.Bool.{Bool, cond, and-false}
 use mathlib.Core.Path.{sym, ap}
-use Rattle.base.proofs.BoolLaws.{and-false}
 use Rattle.passes.proofs.evaluation.owner_gives.Statement.{statement}
 use Rattle.passes.proofs.evaluation.owner_gives.Tie as tie
 

@@ -1,9 +1,9 @@
 -- `sits` meets its contract: the seat's side is tested before the bytes are compared.
 -- Assumes nothing.
+use mathlib.Core.Bool.{and-false, and-true}
 use mathlib.Core.Path.{sym, _∙_}
 use borrow.Author.Needs.{needs}
 use borrow.Author.Tests.{not-true, not-false}
-use Rattle.base.proofs.BoolLaws.{and-false, and-true}
 use Rattle.passes.proofs.seats.sits.Statement.{statement}
 use Rattle.passes.proofs.seats.sits.Tie as tie
 
