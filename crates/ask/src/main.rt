@@ -1,36 +1,42 @@
-// `ask FILE` prints the answer to the question in a file; without an argument it reads standard
-// input. What the answer is, refusals included, is `access::question`'s to say.
+// `ask FILE` prints the answer to the question in a file; with `-`, or without an argument, it reads
+// standard input. What the answer is, refusals included, is `access::question`'s to say. A write that
+// fails is said on standard error; the language has no exit status to say it with.
 use access::Answer;
 use libc::STDERR_FILENO;
 use libc::STDIN_FILENO;
 use libc::STDOUT_FILENO;
 
-fn print_flag(flag: bool) {
+// Each function that prints answers whether all of it was written.
+fn print(text: &[u8]) -> bool {
+    io::write_all(STDOUT_FILENO, text)
+}
+
+fn print_flag(flag: bool) -> bool {
     if flag {
-        io::write_all(STDOUT_FILENO, b"yes");
-        return;
+        return print(b"yes");
     }
-    io::write_all(STDOUT_FILENO, b"no");
+    print(b"no")
 }
 
-fn print_refusal(status: u32) {
-    io::write_all(STDOUT_FILENO, b"refused ");
-    io::print_decimal(STDOUT_FILENO, status as u64);
-    io::write_all(STDOUT_FILENO, b"\n");
+fn print_refusal(status: u32) -> bool {
+    print(b"refused ") && io::print_decimal(STDOUT_FILENO, status as u64) && print(b"\n")
 }
 
-fn print_answer(a: Answer) {
+fn print_findings(a: Answer) -> bool {
+    print(b"granted 0x")
+        && io::print_hex(STDOUT_FILENO, a.granted.0 as u64, 8)
+        && print(b" allowed ")
+        && print_flag(a.allowed)
+        && print(b" staged ")
+        && print_flag(a.staged)
+        && print(b"\n")
+}
+
+fn print_answer(a: Answer) -> bool {
     if a.status != 0 {
-        print_refusal(a.status);
-        return;
+        return print_refusal(a.status);
     }
-    io::write_all(STDOUT_FILENO, b"granted 0x");
-    io::print_hex(STDOUT_FILENO, a.granted.0 as u64, 8);
-    io::write_all(STDOUT_FILENO, b" allowed ");
-    print_flag(a.allowed);
-    io::write_all(STDOUT_FILENO, b" staged ");
-    print_flag(a.staged);
-    io::write_all(STDOUT_FILENO, b"\n");
+    print_findings(a)
 }
 
 // Reads one byte more than the longest question has, so that a longer file is seen to be too long.
@@ -42,13 +48,15 @@ fn answer(fd: i32, name: &[u8]) {
         os::fail(name);
         return;
     }
-    print_answer(access::question(&file[..n]));
+    if !print_answer(access::question(&file[..n])) {
+        os::fail(b"standard output");
+    }
 }
 
 fn main() {
     let count = os::arg_count();
     if 2 < count {
-        io::write_all(STDERR_FILENO, b"usage: ask [FILE]\n");
+        io::write_all(STDERR_FILENO, b"usage: ask [FILE|-]\n");
         return;
     }
     let mut path = io::buffer();
@@ -61,6 +69,10 @@ fn main() {
     let n = os::arg(1, &mut path);
     if os::errno() != 0 {
         os::fail(b"ask");
+        return;
+    }
+    if base::same(&path[..n], b"-") {
+        answer(STDIN_FILENO, b"standard input");
         return;
     }
     let fd = os::open_read(&path[..n]);

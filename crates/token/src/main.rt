@@ -1,7 +1,9 @@
 // `token list FILE` writes the flat listing of a packed token record, and `token pack FILE` the
-// packed record of a flat listing; a refusal prints its number. What is refused, and what the bytes
-// are, is the converters' to say.
+// packed record of a flat listing; the file `-` is standard input. A refusal puts its number on
+// standard error and nothing on standard output, so that a number is never taken for bytes. What is
+// refused, and what the bytes are, is the converters' to say.
 use libc::STDERR_FILENO;
+use libc::STDIN_FILENO;
 use libc::STDOUT_FILENO;
 
 // What the first argument asks for.
@@ -24,13 +26,22 @@ fn wanted() -> Task {
 }
 
 fn print_usage() {
-    io::write_all(STDERR_FILENO, b"usage: token list FILE | token pack FILE\n");
+    io::write_all(
+        STDERR_FILENO,
+        b"usage: token list FILE|- | token pack FILE|-\n",
+    );
 }
 
 fn print_refusal(status: u32) {
-    io::write_all(STDOUT_FILENO, b"refused ");
-    io::print_decimal(STDOUT_FILENO, status as u64);
-    io::write_all(STDOUT_FILENO, b"\n");
+    io::write_all(STDERR_FILENO, b"refused ");
+    io::print_decimal(STDERR_FILENO, status as u64);
+    io::write_all(STDERR_FILENO, b"\n");
+}
+
+fn put(bytes: &[u8]) {
+    if !io::write_all(STDOUT_FILENO, bytes) {
+        os::fail(b"standard output");
+    }
 }
 
 // The room is that of the longest listing.
@@ -42,7 +53,7 @@ fn list(file: &[u8]) {
         return;
     }
     let n = c.length;
-    io::write_all(STDOUT_FILENO, &out[0..n]);
+    put(&out[0..n]);
 }
 
 // The room is that of the longest record.
@@ -54,7 +65,7 @@ fn pack(file: &[u8]) {
         return;
     }
     let n = c.length;
-    io::write_all(STDOUT_FILENO, &out[0..n]);
+    put(&out[0..n]);
 }
 
 // Reads more than the longest record or listing has, so that a longer file is seen to be too long.
@@ -79,6 +90,10 @@ fn run(t: Task) {
     let n = os::arg(2, &mut path);
     if os::errno() != 0 {
         os::fail(b"token");
+        return;
+    }
+    if base::same(&path[..n], b"-") {
+        convert(t, STDIN_FILENO, b"standard input");
         return;
     }
     let fd = os::open_read(&path[..n]);

@@ -19,20 +19,20 @@ print-refusal-requires c κs = search needs
 returns : tie.Need-returns
 returns c = search needs
 
-sub-write-all : tie.Need-sub-write-all
-sub-write-all c = search needs
+sub-put : tie.Need-sub-put
+sub-put c = search needs
 
-part-write-all-start : tie.Need-part-write-all-start
-part-write-all-start c = search needs
+part-put-start : tie.Need-part-put-start
+part-put-start c = search needs
 
-part-write-all-end : tie.Need-part-write-all-end
-part-write-all-end c =
+part-put-end : tie.Need-part-put-end
+part-put-end c =
     let r = c .before .before .before .before .to-listing in
     let file = c .before .before .before .before .before .before .before .args .file .now in
     written-inside (replicate 22940 0) _ (asListing file) (r .result) (r .ensures .0) (r .ensures .1)
 
-write-all-requires : tie.Need-write-all-requires
-write-all-requires c κs = search needs
+put-requires : tie.Need-put-requires
+put-requires c κs = search needs
 
 returns-2 : tie.Need-returns-2
 returns-2 c = search needs
@@ -45,8 +45,8 @@ list-spec =
     to-listing-requires
     print-refusal-requires
     returns
-    sub-write-all
-    part-write-all-start
-    part-write-all-end
-    write-all-requires
+    sub-put
+    part-put-start
+    part-put-end
+    put-requires
     returns-2)
