@@ -17,6 +17,11 @@ pub fn cases() -> Vec<Case> {
         ask("S-1-15-2-2, the capability that all have", both(3, &all_restricted()), yes(3)),
         ask("S-1-15-2-1 without that capability", both(3, &everyone), no(0)),
         ask(
+            "S-1-15-2-1 as a group matches as any group does",
+            on_list(tu().group(&everyone, 4), 1, &[allow(1, &everyone)]),
+            yes(1),
+        ),
+        ask(
             "S-1-15-2-1 with that capability",
             on_list(
                 tu().confined(&package(), &[&everyone, &all_restricted()]),

@@ -17,6 +17,10 @@ fn flags() -> Vec<Case> {
             Rule::of(&acl(&[allow(effective, &u())])).staged(&acl(&[allow(staged, &u())]))
         ])
     };
+    let own = owner_rights();
+    let for_owners = |effective: &[Vec<u8>], staged: &[Vec<u8>]| {
+        make::policy(&[Rule::of(&acl(effective)).staged(&acl(staged))])
+    };
     vec![
         ask(
             "an inherit-only allow is skipped",
@@ -58,6 +62,16 @@ fn flags() -> Vec<Case> {
             "staging: privileges are in both results, so their bits do not differ",
             on_list(tu().privileges(TAKE_OWNERSHIP), 0x8_0000, &[]).policy(rule(0, 0x8_0000)),
             yes(0x8_0000),
+        ),
+        ask(
+            "staging: the effective list names S-1-3-4, the staged one leaves the owner's rights",
+            owned(&u(), 0x6_0000, &[]).policy(for_owners(&[allow(0x2_0000, &own)], &[])),
+            no_staged(0x2_0000),
+        ),
+        ask(
+            "staging: the staged list names S-1-3-4, the effective one leaves the owner's rights",
+            owned(&u(), 0x6_0000, &[]).policy(for_owners(&[], &[allow(0x2_0000, &own)])),
+            yes_staged(0x6_0000),
         ),
     ]
 }
