@@ -1,7 +1,15 @@
-/* pirasteh.h: a proved access check for C.
+/* pirasteh.h: a proved access check for C and C++.
  *
- * Four functions. Each returns a status: PIRASTEH_ANSWERED, or the number of the refusal.
- * Link with -lpirasteh.
+ * Four functions. Each returns a status: PIRASTEH_ANSWERED, which is 0, or the number of the
+ * refusal. pirasteh_allows, at the end, makes one yes or no of the first. Link with -lpirasteh.
+ *
+ * Status 0 is not "yes"
+ *
+ *   Status 0 means that the question was *answered*. An answered question can still be *not
+ *   allowed*: that stands in the word `allowed`.
+ *
+ *       if (pirasteh_check(..) == 0) open();     WRONG: opens for those who are not allowed too
+ *       if (pirasteh_allows(..)) open();         right: answered, and allowed
  *
  * Rules for every call
  *
@@ -14,11 +22,20 @@
  *               anything else passed to that call. Inputs are only read, so two inputs may
  *               share bytes.
  *   Keep still  No other thread may write to any of this memory before the call returns.
+ *   Threads     Thread-safe: any number of threads may call at the same time, on shared inputs
+ *               too. What a call writes is for that call alone.
  *   Afterwards  The library keeps no pointer, has no state and allocates nothing. A call uses
  *               less than 256 KiB of stack.
  *
- * These rules are the caller's part. Nothing in the library can test them. There is no rule
- * about what the bytes of an input may be: every sequence of bytes has its status.
+ * These rules are the caller's part. Nothing in the library can test them; GCC and clang warn
+ * about a NULL that they see, and about a status that nobody looks at. There is no rule about
+ * what the bytes of an input may be: every sequence of bytes has its status.
+ *
+ * Where to read on
+ *
+ *   docs/FORMATS.md             token record, flat listing, descriptor, policy, question file
+ *   docs/REFUSALS.md            each refusal, and what to do about it
+ *   docs/COMING-FROM-WINDOWS.md where the same bytes get another answer than on Windows
  */
 #ifndef PIRASTEH_H
 #define PIRASTEH_H
@@ -26,14 +43,50 @@
 #include <stddef.h>
 #include <stdint.h>
 
+/* The version of this header and its library, as text and as a number that can be compared:
+ * major * 10000 + minor * 100 + patch. */
+#define PIRASTEH_VERSION        "0.2.0"
+#define PIRASTEH_VERSION_NUMBER 200
+
+/* PIRASTEH_CALL: the compiler warns about NULL, and about a result that is not looked at. */
+#if defined(__has_attribute)
+#if __has_attribute(__nonnull__) && __has_attribute(__warn_unused_result__)
+#define PIRASTEH_CALL __attribute__((__nonnull__, __warn_unused_result__))
+#endif
+#elif defined(__GNUC__)
+#if __GNUC__ > 3 || (__GNUC__ == 3 && __GNUC_MINOR__ >= 4)
+#define PIRASTEH_CALL __attribute__((__nonnull__, __warn_unused_result__))
+#endif
+#endif
+#ifndef PIRASTEH_CALL
+#define PIRASTEH_CALL
+#endif
+
+/* PIRASTEH_INLINE: a function of a header, in the compiler's own words. May be defined before. */
+#ifndef PIRASTEH_INLINE
+#if defined(__cplusplus)
+#define PIRASTEH_INLINE static inline
+#elif defined(__STDC_VERSION__) && __STDC_VERSION__ >= 199901L
+#define PIRASTEH_INLINE static inline
+#elif defined(__GNUC__)
+#define PIRASTEH_INLINE static __inline__
+#elif defined(_MSC_VER)
+#define PIRASTEH_INLINE static __inline
+#else
+#define PIRASTEH_INLINE static
+#endif
+#endif
+
 #ifdef __cplusplus
 extern "C" {
 #endif
 
 /* Status numbers, in the order of checking. Of several that apply the lowest is given, except
- * that PIRASTEH_FILE_SHAPE comes before all others. */
+ * that PIRASTEH_FILE_SHAPE comes before all others.
+ *
+ * PIRASTEH_ANSWERED is not "allowed": whether access is allowed stands in the word `allowed`. */
 enum {
-    PIRASTEH_ANSWERED         = 0,  /* answered; for a converter: converted */
+    PIRASTEH_ANSWERED         = 0,  /* answered, allowed or not; for a converter: converted */
     PIRASTEH_KIND             = 1,  /* the kind is not 1 or 2 */
     PIRASTEH_MASK             = 2,  /* the desired mask has a bit that means nothing for this kind */
     PIRASTEH_TOKEN_SHAPE      = 3,  /* the token record or the listing is misshapen */
@@ -49,16 +102,77 @@ enum {
 };
 
 /* Kinds of object. */
-#define PIRASTEH_FILE UINT32_C(1)
-#define PIRASTEH_KEY  UINT32_C(2)
+#define PIRASTEH_FILE 1u
+#define PIRASTEH_KEY  2u
 
-/* Bits of a desired mask, beside the kind's own rights. */
-#define PIRASTEH_GENERIC_READ    UINT32_C(0x80000000)
-#define PIRASTEH_GENERIC_WRITE   UINT32_C(0x40000000)
-#define PIRASTEH_GENERIC_EXECUTE UINT32_C(0x20000000)
-#define PIRASTEH_GENERIC_ALL     UINT32_C(0x10000000)
-#define PIRASTEH_MAXIMUM_ALLOWED UINT32_C(0x02000000)
-#define PIRASTEH_SYSTEM_SECURITY UINT32_C(0x01000000)
+/* Bits of a desired mask, for both kinds. Generic bits are mapped by the library, in the
+ * question and in every entry. */
+#define PIRASTEH_GENERIC_READ           0x80000000u
+#define PIRASTEH_GENERIC_WRITE          0x40000000u
+#define PIRASTEH_GENERIC_EXECUTE        0x20000000u
+#define PIRASTEH_GENERIC_ALL            0x10000000u
+#define PIRASTEH_MAXIMUM_ALLOWED        0x02000000u
+#define PIRASTEH_ACCESS_SYSTEM_SECURITY 0x01000000u /* comes from SeSecurity alone */
+#define PIRASTEH_SYSTEM_SECURITY        PIRASTEH_ACCESS_SYSTEM_SECURITY
+
+/* Standard rights, for both kinds, but for SYNCHRONIZE: that is a right of files only. */
+#define PIRASTEH_DELETE       0x00010000u
+#define PIRASTEH_READ_CONTROL 0x00020000u
+#define PIRASTEH_WRITE_DAC    0x00040000u
+#define PIRASTEH_WRITE_OWNER  0x00080000u
+#define PIRASTEH_SYNCHRONIZE  0x00100000u
+
+/* Rights of files. */
+#define PIRASTEH_FILE_READ_DATA        0x0001u
+#define PIRASTEH_FILE_WRITE_DATA       0x0002u
+#define PIRASTEH_FILE_APPEND_DATA      0x0004u
+#define PIRASTEH_FILE_READ_EA          0x0008u
+#define PIRASTEH_FILE_WRITE_EA         0x0010u
+#define PIRASTEH_FILE_EXECUTE          0x0020u
+#define PIRASTEH_FILE_DELETE_CHILD     0x0040u
+#define PIRASTEH_FILE_READ_ATTRIBUTES  0x0080u
+#define PIRASTEH_FILE_WRITE_ATTRIBUTES 0x0100u
+
+/* What the generic bits are mapped to for a file. ALL_ACCESS is every bit that a file has. */
+#define PIRASTEH_FILE_GENERIC_READ    0x00120089u
+#define PIRASTEH_FILE_GENERIC_WRITE   0x00120116u
+#define PIRASTEH_FILE_GENERIC_EXECUTE 0x001200A0u
+#define PIRASTEH_FILE_ALL_ACCESS      0x001F01FFu
+
+/* Rights of registry keys. */
+#define PIRASTEH_KEY_QUERY_VALUE        0x0001u
+#define PIRASTEH_KEY_SET_VALUE          0x0002u
+#define PIRASTEH_KEY_CREATE_SUB_KEY     0x0004u
+#define PIRASTEH_KEY_ENUMERATE_SUB_KEYS 0x0008u
+#define PIRASTEH_KEY_NOTIFY             0x0010u
+#define PIRASTEH_KEY_CREATE_LINK        0x0020u
+
+/* What the generic bits are mapped to for a key. ALL_ACCESS is every bit that a key has. */
+#define PIRASTEH_KEY_READ       0x00020019u
+#define PIRASTEH_KEY_WRITE      0x00020006u
+#define PIRASTEH_KEY_EXECUTE    0x00020019u
+#define PIRASTEH_KEY_ALL_ACCESS 0x000F003Fu
+
+/* Flags of a token. EXEMPT is for confined tokens only, else 4. */
+#define PIRASTEH_TOKEN_CONFINED 1u
+#define PIRASTEH_TOKEN_EXEMPT   2u
+
+/* Privileges of a token: bits 8 and 9 of a word of 64 bits. Other bits are kept, and not read.
+ * These names are 32 bits wide: turn them into uint64_t before you use ~ on them. */
+#define PIRASTEH_SE_SECURITY       0x0100u
+#define PIRASTEH_SE_TAKE_OWNERSHIP 0x0200u
+
+/* Attributes of a group. Only ENABLED (0x4) and USE_FOR_DENY_ONLY (0x10) are read; the others
+ * are kept, and change no answer. */
+#define PIRASTEH_GROUP_MANDATORY          0x00000001u
+#define PIRASTEH_GROUP_ENABLED_BY_DEFAULT 0x00000002u
+#define PIRASTEH_GROUP_ENABLED            0x00000004u
+#define PIRASTEH_GROUP_OWNER              0x00000008u
+#define PIRASTEH_GROUP_USE_FOR_DENY_ONLY  0x00000010u
+#define PIRASTEH_GROUP_INTEGRITY          0x00000020u
+#define PIRASTEH_GROUP_INTEGRITY_ENABLED  0x00000040u
+#define PIRASTEH_GROUP_RESOURCE           0x20000000u
+#define PIRASTEH_GROUP_LOGON_ID           0xC0000000u
 
 /* A buffer of this size holds any flat listing, so pirasteh_list never gives 11. */
 #define PIRASTEH_LISTING_MAX 22940
@@ -80,7 +194,14 @@ enum {
  *
  * *granted, *allowed and *staged are written in every case. Answered: the granted mask, 1 if
  * access is allowed and 0 if not, 1 if a staged list would have decided otherwise and 0 if not.
- * Refused: 0, 0 and 0. Never gives 11 or 12. */
+ * Refused: 0, 0 and 0. Never gives 11 or 12.
+ *
+ * Returning PIRASTEH_ANSWERED (0) says that the three words are an answer, and not that it is
+ * yes. Neither is a granted mask yes: it may lack bits that were asked for. Look at *allowed:
+ *
+ *     if (pirasteh_check(..) == 0) open();                                 WRONG
+ *     if (pirasteh_check(..) == PIRASTEH_ANSWERED && allowed) open();      right */
+PIRASTEH_CALL
 uint32_t pirasteh_check(uint32_t kind, uint32_t mask,
                         const uint8_t *token, size_t token_len,
                         const uint8_t *self_id, size_t self_len,
@@ -91,7 +212,9 @@ uint32_t pirasteh_check(uint32_t kind, uint32_t mask,
 /* One question from the bytes of a question file: kind, mask, then token, self identity,
  * descriptor and policy with a length before each, all six numbers in sevens.
  *
- * *granted, *allowed and *staged as above. Gives 12, or what pirasteh_check would give. */
+ * *granted, *allowed and *staged as above: here too, answered is not yet allowed. Gives 12, or
+ * what pirasteh_check would give. */
+PIRASTEH_CALL
 uint32_t pirasteh_question(const uint8_t *file, size_t file_len,
                            uint32_t *granted, uint32_t *allowed, uint32_t *staged);
 
@@ -101,6 +224,7 @@ uint32_t pirasteh_question(const uint8_t *file, size_t file_len,
  *
  * Converted: the listing stands in the first *written bytes of out, and the rest of out is as
  * it was. Refused (3, 4 or 11): all of out is as it was, and *written is 0. */
+PIRASTEH_CALL
 uint32_t pirasteh_list(const uint8_t *record, size_t record_len,
                        uint8_t *out, size_t out_len, size_t *written);
 
@@ -109,11 +233,45 @@ uint32_t pirasteh_list(const uint8_t *record, size_t record_len,
  * out, out_len   the lent buffer; PIRASTEH_RECORD_MAX bytes are always enough
  *
  * Buffer and *written as for pirasteh_list. Refused: 3, 4 or 11. */
+PIRASTEH_CALL
 uint32_t pirasteh_pack(const uint8_t *listing, size_t listing_len,
                        uint8_t *out, size_t out_len, size_t *written);
+
+/* One question, for those who want a yes or no: pirasteh_check without its words.
+ *
+ * 1 only if the question is answered and access is allowed. 0 if it is not allowed, and 0 if
+ * the question is refused; pirasteh_check tells these two apart. */
+PIRASTEH_CALL
+PIRASTEH_INLINE int pirasteh_allows(uint32_t kind, uint32_t mask,
+                                    const uint8_t *token, size_t token_len,
+                                    const uint8_t *self_id, size_t self_len,
+                                    const uint8_t *descriptor, size_t descriptor_len,
+                                    const uint8_t *policy, size_t policy_len);
+
+/* Its names end in `_` so that they hide no name of yours. */
+PIRASTEH_INLINE int pirasteh_allows(uint32_t kind_, uint32_t mask_,
+                                    const uint8_t *token_, size_t token_len_,
+                                    const uint8_t *self_id_, size_t self_len_,
+                                    const uint8_t *descriptor_, size_t descriptor_len_,
+                                    const uint8_t *policy_, size_t policy_len_)
+{
+    uint32_t granted_ = 0;
+    uint32_t allowed_ = 0;
+    uint32_t staged_ = 0;
+    uint32_t status_ = pirasteh_check(kind_, mask_, token_, token_len_, self_id_, self_len_,
+                                      descriptor_, descriptor_len_, policy_, policy_len_,
+                                      &granted_, &allowed_, &staged_);
+    return status_ == PIRASTEH_ANSWERED && allowed_ == 1;
+}
+
+/* Where there is no `inline`, this mention keeps the compiler from calling it unused. */
+typedef char pirasteh_allows_mentioned[sizeof(&pirasteh_allows)];
 
 #ifdef __cplusplus
 }
 #endif
+
+#undef PIRASTEH_CALL
+#undef PIRASTEH_INLINE
 
 #endif

@@ -21,11 +21,49 @@ check() { # name, what it printed
     fi
 }
 
-mkdir -p target/examples
-"${CC:-cc}" -std=c99 -Wall -Wextra -Wpedantic -Werror -O2 -Iinclude examples/c/ask.c \
-    -L"$PIRASTEH_LIB_DIR" -lpirasteh -o target/examples/ask-c
-check 'examples/c' "$(target/examples/ask-c)"
+build_c() { # source, program, further words for the compiler
+    local source=$1 program=$2
+    shift 2
+    "${CC:-cc}" -std=c99 -Wall -Wextra -Wpedantic -Werror -O2 -Iinclude "$@" "examples/c/$source" \
+        -L"$PIRASTEH_LIB_DIR" -lpirasteh -o "target/examples/$program"
+}
 
-cargo build --quiet --release --offline --manifest-path examples/rust/Cargo.toml
+check_c() { # what is tried, program, the exit code and the line that are expected
+    local said code=0
+    said=$("target/examples/$2") || code=$?
+    if [ "$said" != "$4" ] || [ "$code" -ne "$3" ]; then
+        echo "FAILED $1: it printed \`$said\` with exit code $code, expected \`$4\` with $3"
+        exit 1
+    fi
+    echo "  $1: $said"
+}
+
+full_c() { # program: nothing can be printed, and it says so by its exit code
+    local code=0
+    [ -c /dev/full ] || return 0
+    "target/examples/$1" >/dev/full 2>&1 || code=$?
+    if [ "$code" -ne 2 ]; then
+        echo "FAILED $1 on a full device: exit code $code, expected 2"
+        exit 1
+    fi
+}
+
+if ! command -v "${CC:-cc}" >/dev/null; then
+    echo "examples.sh: there is no C compiler \`${CC:-cc}\`: set CC"
+    exit 1
+fi
+mkdir -p target/examples
+build_c ask.c ask-c
+build_c ask.c ask-c-no -DASKED=PIRASTEH_FILE_WRITE_DATA
+build_c ask.c ask-c-refused -DASKED=0x00400000u
+build_c token.c token-c
+check_c 'examples/c/ask.c' ask-c 0 "$expected"
+check_c 'examples/c/ask.c, not allowed' ask-c-no 1 'granted 0x00000000 allowed no staged no'
+check_c 'examples/c/ask.c, refused' ask-c-refused 3 'refused 2'
+check_c 'examples/c/token.c' token-c 0 'record 24 bytes, listing 88 bytes, back 24 bytes: the same'
+full_c ask-c
+full_c token-c
+
+cargo build --quiet --release --offline --package ask
 check 'examples/rust' "$("$CARGO_TARGET_DIR/release/ask")"
-echo "examples: 2 programs, 0 failures"
+echo "examples: 3 programs, 0 failures"

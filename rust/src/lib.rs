@@ -1,138 +1,105 @@
 //! A proved Windows-style access check, for Rust.
 //!
-//! The work is done by a library that is proved in another language and linked as an archive
-//! (`build.rs` says how it is found). This crate makes its four functions safe to call, and
-//! nothing more: it tests nothing that the library does not test, and decides nothing.
+//! One question is: may this user (a token) do this (a mask of rights) to this file or registry
+//! key (its security descriptor)? [`check`] answers it.
 //!
-//! ```no_run
-//! # let (token, descriptor) = (&[0u8][..], &[0u8][..]);
-//! let answer = pirasteh::check(&pirasteh::Question {
-//!     kind: pirasteh::FILE,
-//!     mask: 0x8000_0000,
-//!     token,
-//!     self_id: &[],
-//!     descriptor,
-//!     policy: &[],
-//! })?;
-//! if answer.allowed {
-//!     println!("granted {:#010x}", answer.granted);
-//! }
-//! # Ok::<(), pirasteh::Refusal>(())
 //! ```
+//! use pirasteh::{check, mask, Descriptor, Kind, Policy, Question, SelfId, Token};
+//!
+//! // The user S-1-5-0-7, without groups.
+//! const TOKEN: [u8; 8] = [0x01, 0x00, 0x00, 0x02, 0x05, 0x00, 0x07, 0x00];
+//!
+//! // Owned by S-1-5-7; its list allows S-1-5-0-7 generic read.
+//! const DESCRIPTOR: [u8; 64] = [
+//!     0x01, 0x00, 0x04, 0x80, 0x14, 0x00, 0x00, 0x00, 0x00, 0x00, 0x00, 0x00, 0x00, 0x00, 0x00, 0x00,
+//!     0x20, 0x00, 0x00, 0x00, 0x01, 0x01, 0x00, 0x00, 0x00, 0x00, 0x00, 0x05, 0x07, 0x00, 0x00, 0x00,
+//!     0x02, 0x00, 0x20, 0x00, 0x01, 0x00, 0x00, 0x00, 0x00, 0x00, 0x18, 0x00, 0x00, 0x00, 0x00, 0x80,
+//!     0x01, 0x02, 0x00, 0x00, 0x00, 0x00, 0x00, 0x05, 0x00, 0x00, 0x00, 0x00, 0x07, 0x00, 0x00, 0x00,
+//! ];
+//!
+//! let answer = check(&Question {
+//!     kind: Kind::File,
+//!     mask: mask::GENERIC_READ,
+//!     token: Token(&TOKEN),
+//!     self_id: SelfId::NONE,
+//!     descriptor: Descriptor(&DESCRIPTOR),
+//!     policy: Policy::NONE,
+//! })?;
+//! assert!(answer.allowed);
+//! assert_eq!(answer.granted, mask::FILE_GENERIC_READ);
+//! assert_eq!(answer.to_string(), "granted 0x00120089 allowed yes staged no");
+//! # Ok::<(), pirasteh::Error>(())
+//! ```
+//!
+//! # Answered is not allowed
+//!
+//! `Ok` says that the question was answered. The answer can still be no: look at
+//! [`Answer::allowed`], or use [`allows`], which is true for yes and for nothing else.
+//! [`Answer::granted`] does not tell: it has the asked bits that are granted, also where others
+//! are missing. `Err` is a refusal: some part is misshapen or not understood, nothing is granted,
+//! and the [`Error`] says which part.
+//!
+//! # Where the bytes come from
+//!
+//! A descriptor is self-relative, as Windows keeps it. A token is a packed record of this project.
+//! To make one, write its flat listing, whose fields are easy to write, and turn it into the
+//! record with [`pack_vec`]. `docs/FORMATS.md` of the repository describes every form, and
+//! `docs/COMING-FROM-WINDOWS.md` says where other systems answer otherwise.
+//!
+//! # What is proved
+//!
+//! The work is done by a library that is written and proved in another language, Rattle. It is
+//! proved that its functions end, whatever the bytes; that they touch no memory but what they are
+//! lent; that they refuse by the written rules; and that what is not refused is answered by the
+//! written rules. `docs/PROMISES.md` says it in full, with what is assumed: the compiler and the
+//! machine, among others.
+//!
+//! This wrapper is not proved. It hands pointers and lengths over and gives names to numbers. It
+//! decides nothing.
+//!
+//! # What a call takes
+//!
+//! The library allocates nothing, keeps no pointer and has no state. It can be called from many
+//! threads at once. A call uses less than 256 KiB of stack. Of the functions here only
+//! [`list_vec`] and [`pack_vec`] allocate, for their result.
+//!
+//! # Linking
+//!
+//! The library is the archive `libpirasteh.a`. It is looked for in the directory that the variable
+//! `PIRASTEH_LIB_DIR` names by its absolute path, and without that variable in `target/native` of
+//! the repository, where `scripts/archive target/native` puts it. `cargo check` and `cargo doc`
+//! work without it.
 
+#![warn(missing_docs)]
+#![warn(clippy::pedantic)]
+#![deny(unsafe_op_in_unsafe_fn)]
+
+mod answer;
+mod ask;
+pub mod attribute;
+mod convert;
+mod error;
+mod kind;
+pub mod mask;
+mod parts;
+pub mod privilege;
 pub mod raw;
-mod refusal;
+pub mod token_flag;
 
-pub use refusal::Refusal;
+pub use answer::Answer;
+pub use ask::{allows, check, question, Question};
+pub use convert::{list, list_vec, pack, pack_vec};
+pub use error::Error;
+pub use kind::Kind;
+pub use parts::{Descriptor, Listing, Policy, SelfId, Token};
 
-/// Kind of object: a file.
-pub const FILE: u32 = 1;
-/// Kind of object: a registry key.
-pub const KEY: u32 = 2;
-
-/// A buffer of this size holds any flat listing.
+/// A buffer of this size holds any flat listing, so that [`list`] never finds it too short.
 pub const LISTING_MAX: usize = 22_940;
-/// A buffer of this size holds any packed record.
+/// A buffer of this size holds any packed record, so that [`pack`] never finds it too short.
 pub const RECORD_MAX: usize = 28_021;
-
-/// One question: who asks, for what, of which object.
-#[derive(Clone, Copy, Debug)]
-pub struct Question<'a> {
-    /// [`FILE`] or [`KEY`].
-    pub kind: u32,
-    /// The desired mask.
-    pub mask: u32,
-    /// A packed token record.
-    pub token: &'a [u8],
-    /// One SID, or nothing.
-    pub self_id: &'a [u8],
-    /// A self-relative security descriptor.
-    pub descriptor: &'a [u8],
-    /// A policy, or nothing.
-    pub policy: &'a [u8],
-}
-
-/// The answer to a question that was not refused.
-#[derive(Clone, Copy, Debug, PartialEq, Eq)]
-pub struct Answer {
-    /// The bits that are granted.
-    pub granted: u32,
-    /// Every named bit is granted, and something is if the maximum was asked for.
-    pub allowed: bool,
-    /// Some staged list would have decided otherwise on the bits asked.
-    pub staged: bool,
-}
-
-/// Asks one question.
-pub fn check(question: &Question) -> Result<Answer, Refusal> {
-    let q = question;
-    let (mut granted, mut allowed, mut staged) = (0, 0, 0);
-    // SAFETY: every pointer is of a live reference, and none that is written to is shared.
-    // An empty slice has a pointer that is not null.
-    let status = unsafe {
-        raw::pirasteh_check(
-            q.kind,
-            q.mask,
-            q.token.as_ptr(),
-            q.token.len(),
-            q.self_id.as_ptr(),
-            q.self_id.len(),
-            q.descriptor.as_ptr(),
-            q.descriptor.len(),
-            q.policy.as_ptr(),
-            q.policy.len(),
-            &mut granted,
-            &mut allowed,
-            &mut staged,
-        )
-    };
-    answer(status, granted, allowed, staged)
-}
-
-/// Asks the question that the bytes of a question file hold.
-pub fn question(file: &[u8]) -> Result<Answer, Refusal> {
-    let (mut granted, mut allowed, mut staged) = (0, 0, 0);
-    // SAFETY: as in `check`.
-    let status = unsafe {
-        raw::pirasteh_question(file.as_ptr(), file.len(), &mut granted, &mut allowed, &mut staged)
-    };
-    answer(status, granted, allowed, staged)
-}
-
-/// Turns a packed token record into its flat listing, and gives the listing's length. On a
-/// refusal `out` is as it was; past the listing it is as it was in any case. [`LISTING_MAX`]
-/// bytes are always enough.
-pub fn list(record: &[u8], out: &mut [u8]) -> Result<usize, Refusal> {
-    let mut written = 0;
-    // SAFETY: as in `check`; `out` is borrowed for writing, so nothing else shares its bytes.
-    let status = unsafe {
-        raw::pirasteh_list(record.as_ptr(), record.len(), out.as_mut_ptr(), out.len(), &mut written)
-    };
-    refused(status).map_or(Ok(written), Err)
-}
-
-/// Turns a flat listing into its packed token record, and gives the record's length. The buffer
-/// is treated as by [`list`]. [`RECORD_MAX`] bytes are always enough.
-pub fn pack(listing: &[u8], out: &mut [u8]) -> Result<usize, Refusal> {
-    let mut written = 0;
-    // SAFETY: as in `list`.
-    let status = unsafe {
-        raw::pirasteh_pack(
-            listing.as_ptr(),
-            listing.len(),
-            out.as_mut_ptr(),
-            out.len(),
-            &mut written,
-        )
-    };
-    refused(status).map_or(Ok(written), Err)
-}
-
-fn refused(status: u32) -> Option<Refusal> {
-    (status != 0).then(|| Refusal::from_number(status))
-}
-
-fn answer(status: u32, granted: u32, allowed: u32, staged: u32) -> Result<Answer, Refusal> {
-    let answer = Answer { granted, allowed: allowed != 0, staged: staged != 0 };
-    refused(status).map_or(Ok(answer), Err)
-}
+/// A longer descriptor is refused, with [`Error::DescriptorShape`].
+pub const DESCRIPTOR_MAX: usize = 65_535;
+/// A longer policy is refused, with [`Error::PolicyShape`].
+pub const POLICY_MAX: usize = 262_144;
+/// A longer question file is refused, with [`Error::FileShape`].
+pub const QUESTION_MAX: usize = 65_536;

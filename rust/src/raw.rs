@@ -1,6 +1,29 @@
 //! The library's functions as they are. `include/pirasteh.h` has the rules for calling them.
+//!
+//! Every function gives a status: 0, or the number of an [`Error`](crate::Error). The functions
+//! of the crate's root do the same work and are safe to call; take those if you can.
+//!
+//! ```
+//! use pirasteh::raw::pirasteh_list;
+//!
+//! let token = [0x01, 0x00, 0x00, 0x02, 0x05, 0x00, 0x07, 0x00];
+//! let mut out = [0; 64];
+//! let mut written = 0;
+//! // SAFETY: the pointers are of live arrays and a live number, which do not overlap.
+//! let status = unsafe {
+//!     pirasteh_list(token.as_ptr(), token.len(), out.as_mut_ptr(), out.len(), &mut written)
+//! };
+//! assert_eq!((status, written), (0, 32));
+//! ```
 
 extern "C" {
+    /// One question, by its parts. The three result words are written in every case.
+    ///
+    /// # Safety
+    ///
+    /// No pointer is null, also where its length is 0. Each is good for as many bytes as its
+    /// length says, or for one aligned `u32`. Nothing else reads or writes the result words, and
+    /// nothing writes the inputs, before the call is over.
     pub fn pirasteh_check(
         kind: u32,
         mask: u32,
@@ -17,6 +40,12 @@ extern "C" {
         staged: *mut u32,
     ) -> u32;
 
+    /// One question, by the bytes of a question file. The three result words are written in every
+    /// case.
+    ///
+    /// # Safety
+    ///
+    /// As for [`pirasteh_check`].
     pub fn pirasteh_question(
         file: *const u8,
         file_len: usize,
@@ -25,6 +54,13 @@ extern "C" {
         staged: *mut u32,
     ) -> u32;
 
+    /// Packed token record to flat listing. `written` is written in every case, `out` only if the
+    /// whole listing fits.
+    ///
+    /// # Safety
+    ///
+    /// As for [`pirasteh_check`]; `out` is good for `out_len` bytes of writing and overlaps nothing
+    /// else, and `written` is good for one aligned `usize`.
     pub fn pirasteh_list(
         record: *const u8,
         record_len: usize,
@@ -33,6 +69,12 @@ extern "C" {
         written: *mut usize,
     ) -> u32;
 
+    /// Flat listing to packed token record. `written` is written in every case, `out` only if the
+    /// whole record fits.
+    ///
+    /// # Safety
+    ///
+    /// As for [`pirasteh_list`].
     pub fn pirasteh_pack(
         listing: *const u8,
         listing_len: usize,

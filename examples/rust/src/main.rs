@@ -1,9 +1,7 @@
 //! Asks one question, document 01's card c1: may the user S-1-5-0-7 read this file?
 
-use pirasteh::{check, Question, FILE};
+use pirasteh::{check, mask, Descriptor, Kind, Policy, Question, SelfId, Token};
 use std::process::ExitCode;
-
-const GENERIC_READ: u32 = 0x8000_0000;
 
 /// The user S-1-5-0-7, without groups.
 const TOKEN: [u8; 8] = [0x01, 0x00, 0x00, 0x02, 0x05, 0x00, 0x07, 0x00];
@@ -19,26 +17,26 @@ const DESCRIPTOR: [u8; 64] = [
 
 fn main() -> ExitCode {
     let question = Question {
-        kind: FILE,
-        mask: GENERIC_READ,
-        token: &TOKEN,
-        self_id: &[],
-        descriptor: &DESCRIPTOR,
-        policy: &[],
+        kind: Kind::File,
+        mask: mask::GENERIC_READ,
+        token: Token(&TOKEN),
+        self_id: SelfId::NONE,
+        descriptor: Descriptor(&DESCRIPTOR),
+        policy: Policy::NONE,
     };
-    let word = |yes| if yes { "yes" } else { "no" };
     match check(&question) {
+        // Answered: yes or no.
         Ok(answer) => {
-            println!(
-                "granted 0x{:08x} allowed {} staged {}",
-                answer.granted,
-                word(answer.allowed),
-                word(answer.staged)
-            );
-            ExitCode::SUCCESS
+            println!("{answer}");
+            if answer.allowed {
+                ExitCode::SUCCESS
+            } else {
+                ExitCode::FAILURE
+            }
         }
-        Err(refusal) => {
-            println!("{refusal}");
+        // Refused: some part is not what it should be.
+        Err(error) => {
+            println!("{error}");
             ExitCode::FAILURE
         }
     }

@@ -10,6 +10,7 @@ mod plain;
 mod timing;
 
 use inputs::Input;
+use pirasteh::{Descriptor, Kind, Listing, Policy, Question, SelfId, Token};
 use std::hint::black_box;
 use std::process::exit;
 use timing::{best, Timed};
@@ -51,17 +52,17 @@ fn main() {
 }
 
 fn library(input: &Input, mask: u32) -> Result<plain::Answer, u32> {
-    let q = pirasteh::Question {
-        kind: 1,
+    let q = Question {
+        kind: Kind::File,
         mask,
-        token: &input.token,
-        self_id: &input.self_id,
-        descriptor: &input.descriptor,
-        policy: &input.policy,
+        token: Token(&input.token),
+        self_id: SelfId(&input.self_id),
+        descriptor: Descriptor(&input.descriptor),
+        policy: Policy(&input.policy),
     };
     pirasteh::check(&q)
         .map(|a| plain::Answer { granted: a.granted, allowed: a.allowed, staged: a.staged })
-        .map_err(pirasteh::Refusal::number)
+        .map_err(pirasteh::Error::number)
 }
 
 fn by_plain(input: &Input, mask: u32) -> Result<plain::Answer, u32> {
@@ -134,9 +135,9 @@ fn conversions() {
     let (record, listing) = inputs::largest_token();
     let mut out = vec![0; pirasteh::RECORD_MAX];
     let mut other = out.clone();
-    let lengths = (pirasteh::list(&record, &mut out), plain::list(&record, &mut other));
+    let lengths = (pirasteh::list(Token(&record), &mut out), plain::list(&record, &mut other));
     let there = lengths == (Ok(listing.len()), Ok(listing.len())) && out == other;
-    let lengths = (pirasteh::pack(&listing, &mut out), plain::pack(&listing, &mut other));
+    let lengths = (pirasteh::pack(Listing(&listing), &mut out), plain::pack(&listing, &mut other));
     if !there || lengths != (Ok(record.len()), Ok(record.len())) || out != other {
         println!("conversions differ: {lengths:?}");
         exit(1);
@@ -148,14 +149,14 @@ fn conversions() {
     let mut third = out.clone();
     {
         let [library, plain, copy] = best([
-            &mut || keep(pirasteh::list(black_box(&record), &mut out)),
+            &mut || keep(pirasteh::list(Token(black_box(&record)), &mut out)),
             &mut || keep(plain::list(black_box(&record), &mut other)),
             &mut || third[..listing.len()].copy_from_slice(black_box(&listing)),
         ]);
         line(&format!("list, {} to {} bytes", record.len(), listing.len()), library, plain, copy);
     }
     let [library, plain, copy] = best([
-        &mut || keep(pirasteh::pack(black_box(&listing), &mut out)),
+        &mut || keep(pirasteh::pack(Listing(black_box(&listing)), &mut out)),
         &mut || keep(plain::pack(black_box(&listing), &mut other)),
         &mut || third[..record.len()].copy_from_slice(black_box(&record)),
     ]);

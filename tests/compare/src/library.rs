@@ -1,7 +1,7 @@
 //! Calls the library on fenced copies of its inputs, and watches what it does to memory.
 
 use crate::fence::{Fence, Spot};
-use pirasteh::raw;
+use pirasteh::{raw, Descriptor, Kind, Listing, Policy, SelfId, Token};
 use pirasteh_cases::make::Question;
 use pirasteh_reference::Answer;
 
@@ -100,10 +100,9 @@ impl Library {
         let said = words.said(status)?;
         // The safe wrapper, on the same bytes, now and then.
         if dice >> 61 == 0 {
-            let kind = q.kind;
-            let mask = q.mask;
-            let again = pirasteh::Question { kind, mask, token, self_id, descriptor, policy };
-            agrees(said, pirasteh::check(&again))?;
+            let kind = Kind::from_number(q.kind);
+            let parts = [token, self_id, descriptor, policy];
+            checks_alike(said, kind, q.mask, parts)?;
         }
         if !self.inputs_hold(spots, inputs) {
             return Err("an input, or a byte beside one, was written".into());
@@ -134,9 +133,12 @@ impl Library {
     pub fn list(&mut self, record: &[u8], room: usize, dice: u64) -> Said<Vec<u8>> {
         let said = self.convert(raw::pirasteh_list, record, room, dice)?;
         if dice >> 61 == 0 {
+            let token = Token(record);
             let mut out = vec![0; room];
-            let length = pirasteh::list(record, &mut out);
+            let length = pirasteh::list(token, &mut out);
             converts_alike(&said, length.map(|n| out[..n].to_vec()))?;
+            let whole = self.convert(raw::pirasteh_list, record, pirasteh::LISTING_MAX, dice)?;
+            converts_alike(&whole, pirasteh::list_vec(token))?;
         }
         Ok(said)
     }
@@ -145,9 +147,12 @@ impl Library {
     pub fn pack(&mut self, listing: &[u8], room: usize, dice: u64) -> Said<Vec<u8>> {
         let said = self.convert(raw::pirasteh_pack, listing, room, dice)?;
         if dice >> 61 == 0 {
+            let flat = Listing(listing);
             let mut out = vec![0; room];
-            let length = pirasteh::pack(listing, &mut out);
+            let length = pirasteh::pack(flat, &mut out);
             converts_alike(&said, length.map(|n| out[..n].to_vec()))?;
+            let whole = self.convert(raw::pirasteh_pack, listing, pirasteh::RECORD_MAX, dice)?;
+            converts_alike(&whole, pirasteh::pack_vec(flat))?;
         }
         Ok(said)
     }
@@ -191,13 +196,40 @@ impl Library {
     }
 }
 
+/// The wrapper's `check` and `allows` against what the library said. A kind that is not there is
+/// no question of the wrapper's: the library has to have refused it for its kind.
+fn checks_alike(
+    said: Result<Answer, u32>,
+    kind: Option<Kind>,
+    mask: u32,
+    [token, self_id, descriptor, policy]: [&[u8]; 4],
+) -> Result<(), String> {
+    let Some(kind) = kind else {
+        return agrees(said, Err(pirasteh::Error::Kind));
+    };
+    let question = pirasteh::Question {
+        kind,
+        mask,
+        token: Token(token),
+        self_id: SelfId(self_id),
+        descriptor: Descriptor(descriptor),
+        policy: Policy(policy),
+    };
+    agrees(said, pirasteh::check(&question))?;
+    if pirasteh::allows(&question) == said.is_ok_and(|answer| answer.allowed) {
+        Ok(())
+    } else {
+        Err(format!("`allows` says otherwise than the library, {said:?}"))
+    }
+}
+
 fn agrees(
     said: Result<Answer, u32>,
-    safe: Result<pirasteh::Answer, pirasteh::Refusal>,
+    safe: Result<pirasteh::Answer, pirasteh::Error>,
 ) -> Result<(), String> {
     let safe = safe
         .map(|a| Answer { granted: a.granted, allowed: a.allowed, staged: a.staged })
-        .map_err(pirasteh::Refusal::number);
+        .map_err(pirasteh::Error::number);
     if safe == said {
         Ok(())
     } else {
@@ -207,9 +239,9 @@ fn agrees(
 
 fn converts_alike(
     said: &Result<Vec<u8>, u32>,
-    safe: Result<Vec<u8>, pirasteh::Refusal>,
+    safe: Result<Vec<u8>, pirasteh::Error>,
 ) -> Result<(), String> {
-    if safe.map_err(pirasteh::Refusal::number) == *said {
+    if safe.map_err(pirasteh::Error::number) == *said {
         Ok(())
     } else {
         Err("the safe wrapper converts otherwise".into())

@@ -3,6 +3,7 @@
 //! A file holds cases with a blank line between them: `#` lines that give the reason, then
 //! `ask` and `line`, or two of `record`, `listing` and `refused`.
 
+use pirasteh::{Error, Listing, Token};
 use pirasteh_cases::hex;
 use pirasteh_reference as reference;
 use std::collections::BTreeMap;
@@ -82,13 +83,17 @@ fn run_case(fields: &Fields) -> Result<(), String> {
         ["listing", "record"] => convert(&bytes(fields["record"])?, &bytes(fields["listing"])?),
         ["record", "refused"] => {
             let record = bytes(fields["record"])?;
-            refuse(fields["refused"], |out| pirasteh::list(&record, out), reference::list(&record))
+            refuse(
+                fields["refused"],
+                |out| pirasteh::list(Token(&record), out),
+                reference::list(&record),
+            )
         }
         ["listing", "refused"] => {
             let listing = bytes(fields["listing"])?;
             refuse(
                 fields["refused"],
-                |out| pirasteh::pack(&listing, out),
+                |out| pirasteh::pack(Listing(&listing), out),
                 reference::pack(&listing),
             )
         }
@@ -97,10 +102,11 @@ fn run_case(fields: &Fields) -> Result<(), String> {
 }
 
 fn ask(file: &[u8], line: &str) -> Result<(), String> {
-    let said = pirasteh::question(file)
-        .map(|a| reference::Answer { granted: a.granted, allowed: a.allowed, staged: a.staged })
-        .map_err(pirasteh::Refusal::number);
-    expect("library", &reference::line(&said), line)?;
+    let said = match pirasteh::question(file) {
+        Ok(answer) => answer.to_string(),
+        Err(error) => format!("refused {}", error.number()),
+    };
+    expect("library", &said, line)?;
     expect("reference", &reference::line(&reference::question(file)), line)
 }
 
@@ -120,35 +126,35 @@ fn convert(record: &[u8], listing: &[u8]) -> Result<(), String> {
     if reference::pack(listing).as_deref() != Ok(record) {
         return Err("reference packs the listing otherwise".into());
     }
-    converts("lists the record", |out| pirasteh::list(record, out), listing)?;
-    converts("packs the listing", |out| pirasteh::pack(listing, out), record)
+    converts("lists the record", |out| pirasteh::list(Token(record), out), listing)?;
+    converts("packs the listing", |out| pirasteh::pack(Listing(listing), out), record)
 }
 
-type Conversion<'a> = &'a dyn Fn(&mut [u8]) -> Result<usize, pirasteh::Refusal>;
+type Conversion<'a> = &'a dyn Fn(&mut [u8]) -> Result<usize, Error>;
 
 fn converts(
     what: &str,
-    library: impl Fn(&mut [u8]) -> Result<usize, pirasteh::Refusal>,
+    library: impl Fn(&mut [u8]) -> Result<usize, Error>,
     expected: &[u8],
 ) -> Result<(), String> {
     let library: Conversion = &library;
     for room in [expected.len(), pirasteh::RECORD_MAX] {
         let mut out = vec![0x5A; room];
-        let length = library(&mut out).map_err(|refusal| format!("library: {what}: {refusal}"))?;
+        let length = library(&mut out).map_err(|error| format!("library: {what}: {error}"))?;
         if out.get(..length) != Some(expected) || out[length..].iter().any(|&b| b != 0x5A) {
             return Err(format!("library {what} otherwise"));
         }
     }
     let mut out = vec![0x5A; expected.len() - 1];
     match library(&mut out) {
-        Err(pirasteh::Refusal::ShortBuffer) if out.iter().all(|&b| b == 0x5A) => Ok(()),
+        Err(Error::ShortBuffer) if out.iter().all(|&b| b == 0x5A) => Ok(()),
         other => Err(format!("library {what} into a short buffer: {other:?}")),
     }
 }
 
 fn refuse(
     number: &str,
-    library: impl Fn(&mut [u8]) -> Result<usize, pirasteh::Refusal>,
+    library: impl Fn(&mut [u8]) -> Result<usize, Error>,
     reference: Result<Vec<u8>, u32>,
 ) -> Result<(), String> {
     let number: u32 = number.parse().map_err(|_| format!("`{number}` is not a number"))?;
@@ -157,7 +163,7 @@ fn refuse(
     }
     let mut out = vec![0x5A; pirasteh::RECORD_MAX];
     match library(&mut out) {
-        Err(refusal) if refusal.number() == number && out.iter().all(|&b| b == 0x5A) => Ok(()),
+        Err(error) if error.number() == number && out.iter().all(|&b| b == 0x5A) => Ok(()),
         other => Err(format!("library says {other:?}, expected refusal {number}")),
     }
 }

@@ -1,0 +1,81 @@
+//! Does what the command line asks for, and gives the exit status.
+
+use crate::arguments::{self, Input, Task};
+use crate::{stream, text};
+use pirasteh::{list_vec, pack_vec, question, Error, Listing, Token};
+use std::ffi::{c_int, OsStr, OsString};
+use std::io;
+use std::path::Path;
+
+/// Allowed, or converted, or explained.
+const YES: c_int = 0;
+/// Answered, and not allowed.
+const NO: c_int = 1;
+/// The command line is wrong, or reading or writing failed.
+const FAILED: c_int = 2;
+/// Refused.
+const REFUSED: c_int = 3;
+
+/// Runs the command line `words`, which is without the program's name.
+pub fn run(words: Vec<OsString>) -> c_int {
+    match arguments::read(words) {
+        Ok(Task::Ask(input)) => with(&input, ask),
+        Ok(Task::List(input)) => with(&input, |bytes| convert(list_vec(Token(bytes)))),
+        Ok(Task::Pack(input)) => with(&input, |bytes| convert(pack_vec(Listing(bytes)))),
+        Ok(Task::Help) => print(text::help().as_bytes(), YES),
+        Ok(Task::Version) => print(text::version().as_bytes(), YES),
+        Err(wrong) => {
+            stream::write_error(&text::wrong(&wrong));
+            FAILED
+        }
+    }
+}
+
+/// Reads the input and goes on with its bytes.
+fn with(input: &Input, go_on: impl FnOnce(&[u8]) -> c_int) -> c_int {
+    let (name, bytes) = match input {
+        Input::Standard => (OsStr::new("standard input"), stream::read_input()),
+        Input::File(name) => (name.as_os_str(), stream::read_file(Path::new(name))),
+    };
+    match bytes {
+        Ok(bytes) => go_on(&bytes),
+        Err(error) => fail(name, &error),
+    }
+}
+
+fn ask(file: &[u8]) -> c_int {
+    match question(file) {
+        Ok(answer) => {
+            print(format!("{answer}\n").as_bytes(), if answer.allowed { YES } else { NO })
+        }
+        Err(error) => print(refusal(error).as_bytes(), REFUSED),
+    }
+}
+
+/// Writes a converted token. A refusal goes to standard error, so that it is never taken for bytes.
+fn convert(converted: Result<Vec<u8>, Error>) -> c_int {
+    match converted {
+        Ok(bytes) => print(&bytes, YES),
+        Err(error) => {
+            stream::write_error(refusal(error).as_bytes());
+            REFUSED
+        }
+    }
+}
+
+fn refusal(error: Error) -> String {
+    format!("refused {}\n", error.number())
+}
+
+/// Writes to standard output. The status is this one if all was written.
+fn print(bytes: &[u8], status: c_int) -> c_int {
+    match stream::write_output(bytes) {
+        Ok(()) => status,
+        Err(error) => fail(OsStr::new("standard output"), &error),
+    }
+}
+
+fn fail(name: &OsStr, error: &io::Error) -> c_int {
+    stream::write_error(&text::failure(name, error));
+    FAILED
+}

@@ -1,0 +1,144 @@
+//! What the program says, but for answers.
+
+use crate::arguments::Wrong;
+use pirasteh::Error;
+use std::ffi::OsStr;
+use std::fmt::Write;
+use std::io;
+use std::os::unix::ffi::OsStrExt;
+
+const USAGE: &str = "usage: pirasteh ask FILE|- | pirasteh token list FILE|- | \
+                     pirasteh token pack FILE|- | pirasteh --help\n";
+
+const HELP: &str = "\
+pirasteh: a Windows-style access check; an unproved shell over the proved library
+
+  pirasteh ask FILE         Answers the question in FILE, on standard output, with a line
+                            like 'granted 0x00120089 allowed yes staged no' or 'refused 6'.
+  pirasteh token list FILE  Turns a packed token record into its flat listing.
+  pirasteh token pack FILE  Turns a flat listing into its packed token record. Both write
+                            bytes on standard output; a refusal is 'refused 3' on standard
+                            error, and nothing on standard output.
+  pirasteh --help, -h       Says this.
+  pirasteh --version, -V    Says the version.
+
+FILE can be - for standard input. Behind -- no word is an option. At most 65,537 bytes are
+read. The file docs/FORMATS.md describes the form of a question file, of a token record and
+of a listing. The man page is pirasteh(1).
+
+Exit status:
+   0  allowed, or converted
+   1  answered, and not allowed
+   2  the command line is wrong, or reading or writing failed
+   3  refused
+
+Refusals:
+";
+
+/// What `--help` prints.
+pub fn help() -> String {
+    let mut text = String::from(HELP);
+    let named = |error: &Error| !matches!(error, Error::Unknown(_));
+    for error in (1..).map_while(Error::from_number).take_while(named) {
+        // Writing to a string does not fail.
+        let _ = writeln!(text, "  {:2}  {}", error.number(), error.meaning());
+    }
+    text
+}
+
+/// What `--version` prints.
+pub fn version() -> String {
+    let version = env!("CARGO_PKG_VERSION");
+    format!("pirasteh {version}\nan unproved shell over the proved library\n")
+}
+
+/// One line that says what is wrong with the command line, and one for its use.
+pub fn wrong(wrong: &Wrong) -> Vec<u8> {
+    let (what, word) = match wrong {
+        Wrong::NoSubcommand => ("a subcommand is missing: ask or token", None),
+        Wrong::NoConversion => ("token: a word is missing: list or pack", None),
+        Wrong::NoFile(after) => return usage(format!("{after}: FILE is missing").as_bytes()),
+        Wrong::Subcommand(word) => ("unknown subcommand: ", Some(word)),
+        Wrong::Conversion(word) => ("token: neither list nor pack: ", Some(word)),
+        Wrong::Option(word) => ("unknown option: ", Some(word)),
+        Wrong::Surplus(word) => ("one word too many: ", Some(word)),
+    };
+    usage(&[what.as_bytes(), &word.map_or(Vec::new(), |word| shown(word))].concat())
+}
+
+fn usage(what: &[u8]) -> Vec<u8> {
+    [b"pirasteh: ", what, b"\n", USAGE.as_bytes()].concat()
+}
+
+/// One line that says which file could not be read or written, and why.
+pub fn failure(name: &OsStr, error: &io::Error) -> Vec<u8> {
+    [b"pirasteh: ", &shown(name)[..], b": ", reason(error).as_bytes(), b"\n"].concat()
+}
+
+/// The system's own words, without the number that Rust puts behind them.
+fn reason(error: &io::Error) -> String {
+    let text = error.to_string();
+    let number = error.raw_os_error().map(|number| format!(" (os error {number})"));
+    match number.and_then(|number| text.strip_suffix(&number)) {
+        Some(words) => words.to_owned(),
+        None => text,
+    }
+}
+
+/// A word from outside, as it is but for control characters, so that it stays on its line.
+fn shown(word: &OsStr) -> Vec<u8> {
+    word.as_bytes().iter().map(|&byte| if byte.is_ascii_control() { b'?' } else { byte }).collect()
+}
+
+#[cfg(test)]
+mod tests {
+    use super::{failure, help, version, wrong, Wrong};
+    use std::ffi::OsStr;
+    use std::io;
+
+    const WORDS: &str = "an unproved shell over the proved library";
+
+    #[test]
+    fn help_has_every_refusal() {
+        let help = help();
+        assert!(help.contains(WORDS));
+        assert!(help.contains("\n   1  the kind of object is neither 1 (file) nor 2 (key)\n"));
+        assert!(
+            help.ends_with("\n  12  the question file is misshapen or longer than 65,536 bytes\n")
+        );
+    }
+
+    #[test]
+    fn version_says_what_is_not_proved() {
+        assert!(version().starts_with("pirasteh 0."));
+        assert!(version().contains(WORDS));
+    }
+
+    #[test]
+    fn a_failure_is_one_line_in_the_systems_words() {
+        let missing = io::Error::from_raw_os_error(2);
+        let said = failure(OsStr::new("a\nb"), &missing);
+        assert_eq!(said, b"pirasteh: a?b: No such file or directory\n");
+        let other = io::Error::other("something else");
+        assert_eq!(failure(OsStr::new("x"), &other), b"pirasteh: x: something else\n");
+    }
+
+    #[test]
+    fn a_wrong_line_gets_two_lines() {
+        for fault in [
+            Wrong::NoSubcommand,
+            Wrong::NoConversion,
+            Wrong::NoFile("ask"),
+            Wrong::Subcommand("x\ny".into()),
+            Wrong::Conversion("x".into()),
+            Wrong::Option("-x".into()),
+            Wrong::Surplus("x".into()),
+        ] {
+            let said = String::from_utf8(wrong(&fault)).expect("text");
+            let lines: Vec<&str> = said.lines().collect();
+            assert_eq!(lines.len(), 2, "{said}");
+            assert!(lines[0].starts_with("pirasteh: "));
+            assert!(lines[1].starts_with("usage: pirasteh ask FILE|-"));
+        }
+    }
+}

@@ -1,0 +1,3 @@
+/* The header alone, twice. */
+#include "pirasteh.h"
+#include "pirasteh.h"

@@ -1,0 +1,251 @@
+#!/usr/bin/env bash
+# Drives the command `pirasteh` through a shell, and the proved programs `ask` and `token` beside it.
+#
+#   PIRASTEH=/path/to/pirasteh tests/command.sh
+#
+# PIRASTEH      the command, by its absolute path
+# PIRASTEH_BIN  the folder with the programs `ask` and `token`, target/bin if not set; where they do
+#               not run (they are compiled for x86-64) the comparison with them is left out, and said
+#
+# The exit code is 0 only if nothing failed; the last line counts the cases.
+set -uo pipefail
+: "${PIRASTEH:?is not set: give the absolute path of the command}"
+root=$(cd "$(dirname "$0")/.." && pwd)
+bin=$(cd "${PIRASTEH_BIN:-$root/target/bin}" 2>/dev/null && pwd)
+room=$(mktemp -d)
+trap 'rm -rf "$room"' EXIT
+cd "$room" || exit 1
+export PIRASTEH
+count=0
+failures=0
+
+fail() { # name, what happened
+    failures=$((failures + 1))
+    printf 'FAILED %s: %s\n' "$1" "$2"
+}
+
+# try NAME STATUS STDOUT STDERR COMMAND: runs the command in a shell. STDOUT is the exact text
+# (without its last newline); STDERR is a pattern of bash, or empty for nothing.
+try() {
+    local status
+    count=$((count + 1))
+    timeout 20 bash -c "$5" >stdout 2>stderr </dev/null
+    status=$?
+    [ "$status" -eq "$2" ] || fail "$1" "status $status, expected $2 ($(cat stderr))"
+    [ "$(cat stdout)" = "$3" ] || fail "$1" "printed \`$(cat stdout)\`, expected \`$3\`"
+    # shellcheck disable=SC2053
+    if [ -n "$4" ]; then
+        [[ $(cat stderr) == $4 ]] || fail "$1" "standard error is \`$(cat stderr)\`, expected \`$4\`"
+    elif [ -s stderr ]; then
+        fail "$1" "standard error is \`$(cat stderr)\`, expected nothing"
+    fi
+}
+
+same() { # name, file, file
+    count=$((count + 1))
+    cmp -s "$2" "$3" || fail "$1" "$2 and $3 differ"
+}
+
+bytes() { # hexadecimal digits, spaces allowed
+    tr -d ' ' <<<"$1" | tr a-f A-F | basenc --base16 -d
+}
+
+# The cards c1 and c2, as the pages give them, and what is left of c1 with an owner offset of 0.
+user='08 0100000205000700'
+owner='07 01000001050700'
+head='01 8080808008'
+descriptor='0100048014000000000000000000000020000000 010100000000000507000000'
+list='02002000010000000000180000000080010200000000000500000000 07000000'
+ownerless='0100048000000000000000000000000020000000 010100000000000507000000'
+bytes "$head $user 00 40 $descriptor $list 00" >c1
+bytes "$head $owner 00 40 $descriptor $list 00" >c2
+bytes "$head $user 00 40 $ownerless $list 00" >ownerless
+bytes '0100000205000700' >record
+bytes '00000000 0000000000000000 010200000000000500000000 07000000 00000000' >listing
+bytes '8000' >bad
+: >empty
+mkdir folder
+# A question of 65,536 bytes, and one of 65,537: c1 with spare bytes behind its descriptor's parts.
+long() { # length of the descriptor in sevens, spare bytes
+    bytes "$head $user 00 $1 $descriptor $list"
+    head -c "$2" /dev/zero
+    bytes 00
+}
+long ecff03 65452 >q65536
+long edff03 65453 >q65537
+[ "$(wc -c <q65536) $(wc -c <q65537)" = '65536 65537' ] || fail setup 'the long questions are not long'
+cp c1 ./-dash
+cp c1 'with a space'
+cp c1 $'\xff\xfe'
+
+yes='granted 0x00120089 allowed yes staged no'
+no='granted 0x00020000 allowed no staged no'
+same 'c1 is the program'\''s own card' c1 "$root/crates/ask/data/c1"
+
+# ask: answers, statuses, refusals
+try 'ask: allowed'                0 "$yes" '' '$PIRASTEH ask c1'
+try 'ask: not allowed'            1 "$no" '' '$PIRASTEH ask c2'
+try 'ask: refused'                3 'refused 7' '' '$PIRASTEH ask ownerless'
+try 'ask: empty'                  3 'refused 12' '' '$PIRASTEH ask empty'
+try 'ask: /dev/null'              3 'refused 12' '' '$PIRASTEH ask /dev/null'
+try 'ask: 65,536 bytes'           0 "$yes" '' '$PIRASTEH ask q65536'
+try 'ask: 65,537 bytes'           3 'refused 12' '' '$PIRASTEH ask q65537'
+try 'ask: 65,536 bytes, a pipe'   0 "$yes" '' 'cat q65536 | $PIRASTEH ask -'
+try 'ask: 65,537 bytes, a pipe'   3 'refused 12' '' 'cat q65537 | $PIRASTEH ask -'
+try 'ask: a pipe without end'     3 'refused 12' '' 'cat /dev/zero | $PIRASTEH ask -'
+try 'ask: standard input'         0 "$yes" '' '$PIRASTEH ask - <c1'
+try 'ask: a slow pipe'            0 "$yes" '' \
+    '{ head -c 3 c1; sleep 0.2; tail -c +4 c1 | head -c 40; sleep 0.2; tail -c +44 c1; } | $PIRASTEH ask -'
+try 'ask: opens when allowed'     0 "$yes"$'\n'open '' '$PIRASTEH ask c1 && echo open'
+try 'ask: shut when not allowed'  1 "$no" '' '$PIRASTEH ask c2 && echo open'
+try 'ask: shut when refused'      3 'refused 7' '' '$PIRASTEH ask ownerless && echo open'
+try 'ask: a name with a dash'     0 "$yes" '' '$PIRASTEH ask -- -dash'
+try 'ask: a name with a space'    0 "$yes" '' '$PIRASTEH ask "with a space"'
+try 'ask: a name not of UTF-8'    0 "$yes" '' "\$PIRASTEH ask \$'\\xff\\xfe'"
+
+# input that cannot be read
+try 'ask: missing'            2 '' 'pirasteh: nowhere: No such file or directory' '$PIRASTEH ask nowhere'
+try 'ask: a folder'           2 '' 'pirasteh: folder: Is a directory' '$PIRASTEH ask folder'
+try 'ask: input is a folder'  2 '' 'pirasteh: standard input: Is a directory' '$PIRASTEH ask - <folder'
+try 'ask: input closed'       2 '' 'pirasteh: standard input: Bad file descriptor' '$PIRASTEH ask - <&-'
+try 'ask: an empty name'      2 '' 'pirasteh: *: No such file or directory' '$PIRASTEH ask ""'
+try 'token: missing'          2 '' 'pirasteh: nowhere: No such file or directory' '$PIRASTEH token list nowhere'
+try 'token: a folder'         2 '' 'pirasteh: folder: Is a directory' '$PIRASTEH token pack folder'
+
+# output that cannot be written
+try 'ask: output full'        2 '' 'pirasteh: standard output: No space left on device' '$PIRASTEH ask c1 >/dev/full'
+try 'ask: output closed'      2 '' 'pirasteh: standard output: Bad file descriptor' '$PIRASTEH ask c1 >&-'
+try 'ask: all closed'         2 '' '' '$PIRASTEH ask c1 <&- >&- 2>&-'
+try 'ask: the reader is gone' 2 '' 'pirasteh: standard output: Broken pipe' \
+    'mkfifo pipe; exec 3<>pipe 4>pipe 3<&-; $PIRASTEH ask c1 >&4'
+try 'ask: a refusal lost'     2 '' 'pirasteh: standard output: *' '$PIRASTEH ask ownerless >/dev/full'
+try 'token: output full'      2 '' 'pirasteh: standard output: No space left on device' '$PIRASTEH token list record >/dev/full'
+try 'token: output closed'    2 '' 'pirasteh: standard output: Bad file descriptor' '$PIRASTEH token pack listing >&-'
+try 'help: output full'       2 '' 'pirasteh: standard output: No space left on device' '$PIRASTEH --help >/dev/full'
+try 'version: output closed'  2 '' 'pirasteh: standard output: Bad file descriptor' '$PIRASTEH --version >&-'
+
+# token
+try 'token: list'             0 '' '' '$PIRASTEH token list record >made'
+same 'token: list' made listing
+try 'token: pack'             0 '' '' '$PIRASTEH token pack - <listing >made'
+same 'token: pack' made record
+try 'token: there and back'   0 '' '' 'set -o pipefail; $PIRASTEH token list record | $PIRASTEH token pack - >made'
+same 'token: there and back' made record
+try 'token: list refused'     3 '' 'refused 3' '$PIRASTEH token list bad'
+try 'token: pack refused'     3 '' 'refused 3' '$PIRASTEH token pack bad'
+try 'token: empty'            3 '' 'refused 3' '$PIRASTEH token list empty'
+try 'token: too long'         3 '' 'refused 3' '$PIRASTEH token list q65537'
+try 'token: without end'      3 '' 'refused 3' 'cat /dev/zero | $PIRASTEH token pack -'
+try 'token: nowhere to say'   3 '' '' '$PIRASTEH token list bad 2>&-'
+
+# usage
+for words in '' 'answer c1' 'ask' 'ask c1 c2' 'token' 'token list' 'token turn record' \
+    'token list record listing' '-x' 'ask -x c1' '--helpless' 'token --all list record'; do
+    try "usage: pirasteh $words" 2 '' 'pirasteh: *usage: pirasteh *' "\$PIRASTEH $words"
+done
+version=$(sed -n '/^\[workspace.package\]/,/^$/s/^version = "\(.*\)"$/\1/p' "$root/Cargo.toml")
+try 'version' 0 "pirasteh $version"$'\n''an unproved shell over the proved library' '' '$PIRASTEH --version'
+for words in '--help' '-h' 'ask --help' 'token list -h'; do
+    try "help: $words" 0 '0 0 0' '' "\$PIRASTEH $words >text; for word in 'an unproved shell over the proved library' 'answered, and not allowed' '  12  '; do grep -qF -- \"\$word\" text; echo \$?; done | paste -sd' '"
+done
+
+# The proved programs: the same lines; the language has no exit status, so it is always 0.
+run_here() { [ -x "$bin/$1" ] && "$bin/ask" c1 >/dev/null 2>&1; }
+if run_here ask && run_here token; then
+    export ASK=$bin/ask TOKEN=$bin/token
+    try 'program ask: a file'          0 "$yes" '' '$ASK c1'
+    try 'program ask: no argument'     0 "$yes" '' '$ASK <c1'
+    try 'program ask: -'               0 "$no" '' '$ASK - <c2'
+    try 'program ask: refused'         0 'refused 7' '' '$ASK ownerless'
+    try 'program ask: 65,536 bytes'    0 "$yes" '' 'cat q65536 | $ASK -'
+    try 'program ask: 65,537 bytes'    0 'refused 12' '' '$ASK q65537'
+    try 'program ask: missing'         0 '' 'nowhere: No such file or directory' '$ASK nowhere'
+    try 'program ask: a folder'        0 '' 'folder: Is a directory' '$ASK folder'
+    try 'program ask: output full'     0 '' 'standard output: No space left on device' '$ASK c1 >/dev/full'
+    try 'program ask: output closed'   0 '' 'standard output: Bad file descriptor' '$ASK c1 >&-'
+    try 'program ask: usage'           0 '' 'usage: ask *' '$ASK c1 c2'
+    try 'program token: list'          0 '' '' '$TOKEN list record >made'
+    same 'program token: list' made listing
+    try 'program token: pack -'        0 '' '' '$TOKEN pack - <listing >made'
+    same 'program token: pack -' made record
+    try 'program token: refused'       0 '' 'refused 3' '$TOKEN list bad'
+    try 'program token: output full'   0 '' 'standard output: No space left on device' '$TOKEN list record >/dev/full'
+    try 'program token: output closed' 0 '' 'standard output: Bad file descriptor' '$TOKEN pack listing >&-'
+    try 'program token: usage'         0 '' 'usage: token *' '$TOKEN list'
+    programs=yes
+else
+    echo "  the programs ask and token are not built, or do not run on this processor: left out"
+    programs=no
+fi
+
+# Every vector: the line, the status, and the very bytes that the proved programs print.
+status_of() { # line
+    case $1 in
+        refused*) echo 3 ;;
+        *' allowed yes '*) echo 0 ;;
+        *) echo 1 ;;
+    esac
+}
+
+ask_vector() { # question, line
+    local line status
+    bytes "$1" >question
+    line=$("$PIRASTEH" ask question)
+    status=$?
+    [ "$line" = "$2" ] || fail "a vector" "printed \`$line\`, expected \`$2\` for $1"
+    [ "$status" -eq "$(status_of "$2")" ] || fail "a vector" "status $status for the line \`$line\`"
+    if [ $programs = yes ]; then
+        cmp -s <("$PIRASTEH" ask question 2>&1) <("$ASK" question 2>&1) ||
+            fail "a vector" "pirasteh and ask print otherwise for $1"
+    fi
+}
+
+token_vector() { # list or pack, input, expected bytes or a refusal number
+    local status
+    bytes "$2" >input
+    "$PIRASTEH" token "$1" input >output 2>stderr
+    status=$?
+    if [[ $3 == refused* ]]; then
+        [ "$status $(cat stderr) $(wc -c <output)" = "3 $3 0" ] || fail "a vector" "token $1: $(cat stderr) for $2"
+    else
+        bytes "$3" >expected
+        [ "$status" -eq 0 ] && cmp -s output expected || fail "a vector" "token $1 makes other bytes of $2"
+    fi
+    if [ $programs = yes ]; then
+        cmp -s <("$PIRASTEH" token "$1" input 2>&1) <("$TOKEN" "$1" input 2>&1) ||
+            fail "a vector" "pirasteh and token print otherwise for $2"
+    fi
+}
+
+vectors=0
+declare -A field=()
+case_ends() {
+    [ ${#field[@]} -eq 0 ] && return
+    vectors=$((vectors + 1))
+    if [ -n "${field[ask]+.}" ]; then
+        ask_vector "${field[ask]}" "${field[line]}"
+    elif [ -n "${field[refused]+.}" ]; then
+        if [ -n "${field[record]+.}" ]; then
+            token_vector list "${field[record]}" "refused ${field[refused]}"
+        else
+            token_vector pack "${field[listing]}" "refused ${field[refused]}"
+        fi
+    else
+        token_vector list "${field[record]}" "${field[listing]}"
+        token_vector pack "${field[listing]}" "${field[record]}"
+    fi
+    field=()
+}
+for file in "$root"/tests/vectors/*.txt; do
+    while IFS= read -r text || [ -n "$text" ]; do
+        case $text in
+            '#'*) ;;
+            '') case_ends ;;
+            *) field[${text%% *}]=${text#* = } ;;
+        esac
+    done <"$file"
+    case_ends
+done
+[ "$vectors" -gt 0 ] || fail vectors 'there are none'
+echo "command: $count cases and $vectors vectors, $failures failures"
+[ "$failures" -eq 0 ]
