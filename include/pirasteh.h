@@ -240,7 +240,8 @@ uint32_t pirasteh_pack(const uint8_t *listing, size_t listing_len,
 /* One question, for those who want a yes or no: pirasteh_check without its words.
  *
  * 1 only if the question is answered and access is allowed. 0 if it is not allowed, and 0 if
- * the question is refused; pirasteh_check tells these two apart. */
+ * the question is refused. An unexpected 0 may be a refusal, of parts that changed places for
+ * instance: pirasteh_check gives its number. */
 PIRASTEH_CALL
 PIRASTEH_INLINE int pirasteh_allows(uint32_t kind, uint32_t mask,
                                     const uint8_t *token, size_t token_len,

@@ -108,7 +108,7 @@ try 'ask: missing'            2 '' 'pirasteh: nowhere: No such file or directory
 try 'ask: a folder'           2 '' 'pirasteh: folder: Is a directory' '$PIRASTEH ask folder'
 try 'ask: input is a folder'  2 '' 'pirasteh: standard input: Is a directory' '$PIRASTEH ask - <folder'
 try 'ask: input closed'       2 '' 'pirasteh: standard input: Bad file descriptor' '$PIRASTEH ask - <&-'
-try 'ask: an empty name'      2 '' 'pirasteh: *: No such file or directory' '$PIRASTEH ask ""'
+try 'ask: an empty name'      2 '' "pirasteh: '': No such file or directory" '$PIRASTEH ask ""'
 try 'token: missing'          2 '' 'pirasteh: nowhere: No such file or directory' '$PIRASTEH token list nowhere'
 try 'token: a folder'         2 '' 'pirasteh: folder: Is a directory' '$PIRASTEH token pack folder'
 

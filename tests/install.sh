@@ -30,6 +30,12 @@ tree/bin/pirasteh
 tree/include/pirasteh.h
 tree/lib/libpirasteh.a
 tree/lib/pkgconfig/pirasteh.pc
+tree/share/doc/pirasteh/COMING-FROM-WINDOWS.md
+tree/share/doc/pirasteh/FORMATS.md
+tree/share/doc/pirasteh/FROM-REAL-LIFE.md
+tree/share/doc/pirasteh/PROMISES.md
+tree/share/doc/pirasteh/REFUSALS.md
+tree/share/doc/pirasteh/RULES.md
 tree/share/man/man1/pirasteh.1
 tree/share/man/man3/pirasteh.3
 tree/share/man/man3/pirasteh_allows.3
@@ -120,8 +126,20 @@ ln -s "$(command -v cc)" "$tools/cc"
 without rt build out
 without rt install prefix
 expect 'a failed install puts nothing in place' '' "$(ls -d prefix out 2>/dev/null)"
-said=$("$root/scripts/install" 2>&1)
-expect 'scripts/install without a prefix' '2 usage: install PREFIX' "$? $said"
+called() { # script and words: status and what it says
+    local said
+    said=$("$root/scripts/$1" "${@:2}" 2>&1)
+    echo "$? $said"
+}
+expect 'scripts/install without a prefix' '2 usage: install PREFIX' "$(called install)"
+expect 'scripts/install of an empty prefix' '2 usage: install PREFIX' "$(called install '')"
+expect 'scripts/install --help' '0 usage: install PREFIX' "$(called install --help)"
+expect 'scripts/install --prefix=x' '2 usage: install PREFIX' "$(called install --prefix=x)"
+expect 'scripts/build -h' '0 usage: build [OUT-DIR]' "$(called build -h)"
+expect 'scripts/build with two words' '2 usage: build [OUT-DIR]' "$(called build a b)"
+expect 'scripts/archive --help' '0 usage: archive OUT-DIR' "$(called archive --help)"
+expect 'scripts/bench --fast' '2 usage: bench ' "$(called bench --fast)"
+expect 'scripts/test-outside --help' '0 usage: test-outside ' "$(called test-outside --help)"
 
 echo "install: $steps steps, $failures failures"
 [ "$failures" -eq 0 ]

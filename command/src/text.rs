@@ -85,8 +85,12 @@ fn reason(error: &io::Error) -> String {
     }
 }
 
-/// A word from outside, as it is but for control characters, so that it stays on its line.
+/// A word from outside, as it is but for control characters, so that it stays on its line. An empty
+/// one is shown as the shell writes it.
 fn shown(word: &OsStr) -> Vec<u8> {
+    if word.is_empty() {
+        return b"''".to_vec();
+    }
     word.as_bytes().iter().map(|&byte| if byte.is_ascii_control() { b'?' } else { byte }).collect()
 }
 

@@ -130,6 +130,16 @@ mod tests {
     }
 
     #[test]
+    fn the_proved_program_counts_them() {
+        let file = Path::new(env!("CARGO_MANIFEST_DIR")).join("../../crates/vectors/stdout");
+        let counted = fs::read_to_string(file).unwrap_or_default();
+        for (name, _, cases) in files() {
+            let line = format!("{name}: {} cases, 0 differ", cases.len());
+            assert!(counted.lines().any(|l| l == line), "crates/vectors/stdout lacks `{line}`");
+        }
+    }
+
+    #[test]
     fn the_files_are_these() {
         let dir = Path::new(env!("CARGO_MANIFEST_DIR")).join("../vectors");
         for (name, head, cases) in files() {
