@@ -195,7 +195,9 @@ ask_vector() { # question, line
     [ "$line" = "$2" ] || fail "a vector" "printed \`$line\`, expected \`$2\` for $1"
     [ "$status" -eq "$(status_of "$2")" ] || fail "a vector" "status $status for the line \`$line\`"
     if [ $programs = yes ]; then
-        cmp -s <("$PIRASTEH" ask question 2>&1) <("$ASK" question 2>&1) ||
+        "$PIRASTEH" ask question >output 2>stderr
+        "$ASK" question >output-too 2>stderr-too
+        cmp -s output output-too && cmp -s stderr stderr-too ||
             fail "a vector" "pirasteh and ask print otherwise for $1"
     fi
 }
@@ -212,7 +214,8 @@ token_vector() { # list or pack, input, expected bytes or a refusal number
         [ "$status" -eq 0 ] && cmp -s output expected || fail "a vector" "token $1 makes other bytes of $2"
     fi
     if [ $programs = yes ]; then
-        cmp -s <("$PIRASTEH" token "$1" input 2>&1) <("$TOKEN" "$1" input 2>&1) ||
+        "$TOKEN" "$1" input >output-too 2>stderr-too
+        cmp -s output output-too && cmp -s stderr stderr-too ||
             fail "a vector" "pirasteh and token print otherwise for $2"
     fi
 }

@@ -26,19 +26,7 @@ use crate::{raw, Error, Listing, Token, LISTING_MAX, RECORD_MAX};
 /// [`Error::TokenShape`], [`Error::TokenRule`] or [`Error::ShortBuffer`]. All of `out` is then as
 /// it was.
 pub fn list(token: Token<'_>, out: &mut [u8]) -> Result<usize, Error> {
-    let mut written = 0;
-    // SAFETY: every pointer is of a live reference; `out` is borrowed for writing, so nothing else
-    // shares its bytes. An empty slice has a pointer that is not null.
-    let status = unsafe {
-        raw::pirasteh_list(
-            token.0.as_ptr(),
-            token.0.len(),
-            out.as_mut_ptr(),
-            out.len(),
-            &raw mut written,
-        )
-    };
-    Error::from_number(status).map_or(Ok(written), Err)
+    convert(raw::pirasteh_list, token.0, out)
 }
 
 /// Turns a flat listing into its packed token record, and gives the record's length.
@@ -69,18 +57,7 @@ pub fn list(token: Token<'_>, out: &mut [u8]) -> Result<usize, Error> {
 /// [`Error::TokenShape`], [`Error::TokenRule`] or [`Error::ShortBuffer`]. All of `out` is then as
 /// it was.
 pub fn pack(listing: Listing<'_>, out: &mut [u8]) -> Result<usize, Error> {
-    let mut written = 0;
-    // SAFETY: as in `list`.
-    let status = unsafe {
-        raw::pirasteh_pack(
-            listing.0.as_ptr(),
-            listing.0.len(),
-            out.as_mut_ptr(),
-            out.len(),
-            &raw mut written,
-        )
-    };
-    Error::from_number(status).map_or(Ok(written), Err)
+    convert(raw::pirasteh_pack, listing.0, out)
 }
 
 /// Turns a packed token record into its flat listing, in a vector of the listing's length.
@@ -133,6 +110,19 @@ pub fn list_vec(token: Token<'_>) -> Result<Vec<u8>, Error> {
 /// [`Error::TokenShape`] or [`Error::TokenRule`].
 pub fn pack_vec(listing: Listing<'_>) -> Result<Vec<u8>, Error> {
     vector(RECORD_MAX, |out| pack(listing, out))
+}
+
+/// One of the library's two converters.
+type Converter = unsafe extern "C" fn(*const u8, usize, *mut u8, usize, *mut usize) -> u32;
+
+fn convert(with: Converter, input: &[u8], out: &mut [u8]) -> Result<usize, Error> {
+    let mut written = 0;
+    // SAFETY: `with` is a converter of the library, and both take the same. Every pointer is of a
+    // live reference; `out` is borrowed for writing, so nothing else shares its bytes. An empty
+    // slice has a pointer that is not null.
+    let status =
+        unsafe { with(input.as_ptr(), input.len(), out.as_mut_ptr(), out.len(), &raw mut written) };
+    Error::from_number(status).map_or(Ok(written), Err)
 }
 
 fn vector(
