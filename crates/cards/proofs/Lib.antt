@@ -7,3 +7,5 @@ pub mod CardsHold
 pub mod Dummies
 -- pairs of questions that meet the conditions of demand 3
 pub mod DemandThreeMet
+-- a pair that meets the conditions of request 101's `same-reading`
+pub mod LongEntriesMet

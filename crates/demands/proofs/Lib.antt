@@ -9,5 +9,7 @@ pub mod ConverterLaws
 -- demand 3
 pub mod StrangersLaws
 pub mod GainLaws
+-- request 101
+pub mod LongEntriesLaws
 -- what a reader of the page expects
 pub mod ReaderLaws

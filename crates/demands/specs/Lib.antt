@@ -7,3 +7,5 @@ pub mod Conditions
 pub mod Conversions
 -- demand 3's words: strangers
 pub mod Strangers
+-- request 101's words: lists that read the same
+pub mod LongEntries

@@ -40,14 +40,15 @@ fn show(list: &[u8], a: Ace) {
 fn listed(name: &[u8], list: &[u8]) {
     print(name);
     print(b"\n");
+    let own = reader::held(list);
     let mut at: usize = 8;
     let mut step = reader::first(list);
     loop {
         let Step::Entry(a) = step else {
             return;
         };
-        show(list, a);
-        step = reader::after(list, at);
+        show(own, a);
+        step = reader::after(own, at);
         at = a.next;
     }
 }
@@ -64,6 +65,19 @@ fn changed(name: &[u8], at: usize, v: u8)
     listed(name, &l[0..40]);
 }
 
+// An allow entry of 32 bytes, whose 16 spare bytes look like a deny entry, and a deny entry of 16
+// after it; with another byte at a place.
+fn spared(name: &[u8], at: usize, v: u8)
+    requires { ⌜ at < 56 ⌝ }
+{
+    let mut l = *b"\x02\0\x38\0\x02\0\0\0\
+        \0\0\x20\0\x01\0\0\0\x01\0\0\0\0\0\0\x05\
+        \x01\0\x10\0\x02\0\0\0\x01\0\0\0\0\0\0\x07\
+        \x01\0\x10\0\x04\0\0\0\x01\0\0\0\0\0\0\x06";
+    l[at] = v;
+    listed(name, &l[0..56]);
+}
+
 fn main() {
     let d = testkit::descriptor();
     listed(b"the DACL of D", lists::dacl(&d[0..64]));
@@ -76,4 +90,11 @@ fn main() {
     changed(b"size 12 in the first place", 10, 12);
     changed(b"size 20 in the second place", 26, 20);
     changed(b"a SID of one word in the second place", 33, 1);
+    changed(b"size 32 in the first place", 10, 32);
+    spared(b"16 spare bytes that look like an entry", 0, 2);
+    spared(b"the same, with a SID of four words", 17, 4);
+    spared(b"the same, with a SID of five words", 17, 5);
+    spared(b"the same, with count 1", 4, 1);
+    spared(b"the same, with size 48", 10, 48);
+    spared(b"the same, with size 16", 10, 16);
 }

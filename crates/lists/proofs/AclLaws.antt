@@ -1,8 +1,8 @@
 -- Laws of lists and their entries, for callers: what an accepted list's entries are.
--- In order: the bytes of a list, by its place (acl-of-part); entries one by one (ace-found, entries-stop, entries-more); what holds of
--- every entry (All, Sound, entries-sound, Narrow, entries-narrow); a list of plain entries (Plainly, plain-of-scan, plain-more), all of which
--- are read (plain-reads-all). The tests one by one are in AclSteps. Assumes nothing.
-use Prim.Native.Nat.{ℕ, zero, suc, _+_, _-_, _^_, _<_}
+-- In order: the bytes of a list, by its place (acl-of-part); entries one by one (ace-found, entries-stop, entries-more, entries-short); what holds of
+-- every entry (All, Sound, entries-sound, Narrow, entries-narrow); a list of plain entries (Plainly, plain-of-scan, plain-more, plain-cons), all
+-- of which are read (plain-reads-all). The tests one by one are in AclSteps. Assumes nothing.
+use Prim.Native.Nat.{ℕ, zero, suc, _+_, _-_, _^_, _<_, _≤_}
 use mathlib.Core.Path.{_≡_, refl, sym, ap, _∙_}
 use mathlib.Core.List.{List, [], _∷_}
 use mathlib.Core.Bool.{Bool, true, false, cond}
@@ -10,7 +10,7 @@ use native.Mathlib.Omega.{arith}
 use lib.ListN.{length}
 use lib.Dec.{T, ltb, eqb}
 use lib.Pow.{areBytes}
-use borrow.Author.Tests.{eq-eqb, ne-eqb, eqb-true, eqb-false, ltb-true, ltb-false}
+use borrow.Author.Tests.{lt-ltb, eq-eqb, ne-eqb, eqb-true, eqb-false, ltb-true, ltb-false}
 use Rattle.base.specs.Bytes.{byteAt, u16At, part}
 use Rattle.base.proofs.BytesLaws.{length-part, bytes-part, byte-lt}
 use Rattle.base.proofs.WordsLaws.{u32-at-lt}
@@ -55,6 +55,20 @@ module _ (l : List ℕ) (n at : ℕ) where
   pub entries-more : (aceAt l at .next ≡ 0 → ⊥) → entriesAt l (suc n) at ≡ entryOf l (aceAt l at) ∷ entriesAt l n (aceAt l at .next)
   unfolding entriesAt
   entries-more h = rw (ne-eqb (aceAt l at .next) 0 h)
+
+-- no more of them are read than are counted
+pub entries-short : (l : List ℕ) → length (entriesOf l) ≤ u16At l 4
+unfolding entriesOf entriesAt
+entries-short l = go (u16At l 4) 8
+  where
+    go : (n at : ℕ) → length (entriesAt l n at) ≤ n
+    go zero at = omega arith
+    go (suc n) at = past (eqb (aceAt l at .next) 0) (go n (aceAt l at .next))
+      where
+        past : (t : Bool) → length (entriesAt l n (aceAt l at .next)) ≤ n →
+            length (cond t [] (entryOf l (aceAt l at) ∷ entriesAt l n (aceAt l at .next))) ≤ suc n
+        past true r = omega arith
+        past false r = omega arith
 
 -- ---- what holds of every entry
 
@@ -140,6 +154,17 @@ plain-more l n at p = go (ltb (byteAt l at) 2) refl (eqb (entryEnd true l at) 0)
     go t q true r x y = let z : _≡_ {A = ℕ} 0 1 = cc in absurd (omega arith)
     go false q false r x y = let z : _≡_ {A = ℕ} 0 1 = cc in absurd (omega arith)
     go true q false r x y = rw (ace-at-some l at (ltb-true _ _ q) (eqb-false _ _ r)) (eqb-false _ _ r, record { shape = x; own = y })
+
+-- and the other way
+pub plain-cons : (l : List ℕ) (n at : ℕ) → (aceAt l at .next ≡ 0 → ⊥) → Plainly l n (aceAt l at .next) → Plainly l (suc n) at
+unfolding shaped foreign
+plain-cons l n at h p =
+    let f = ace-found l at h in
+    let q : Plainly l n (entryEnd true l at) = rw (ace-at-some l at (f .0) (f .1)) at p in
+    record {
+      shape = rw (ne-eqb (entryEnd true l at) 0 (f .1)) (q .shape);
+      own = rw (lt-ltb (byteAt l at) 2 (f .0)) (q .own);
+    }
 
 pub plain-reads : (l : List ℕ) (n at : ℕ) → Plainly l n at → length (entriesAt l n at) ≡ n
 unfolding entriesAt

@@ -1,4 +1,4 @@
--- The definitions tried on small inputs, by computation: identities, and the descriptor D of the bench cards.
+-- The definitions tried on small inputs, by computation: identities, the descriptor D of the bench cards, and sizes of an entry.
 -- Assumes nothing.
 use Prim.Native.Nat.{ℕ}
 use mathlib.Core.Path.{_≡_, refl}
@@ -54,3 +54,14 @@ handed = refl
 allows : entriesOf a ≡ record { kind = 0; flags = 0; mask = 0x80000000; sid = u } ∷ []
 unfolding sidEnd headEnd holds entryEnd aceAt entriesAt entriesOf u16At u32At u d a
 allows = refl
+
+-- "8 plus the SID's length or more, still a multiple of 4": an entry of a size, and 32 bytes in all, that allows S-1-5, of 8 bytes
+sized : ℕ → List ℕ
+sized n =
+    0 ∷ 0 ∷ n ∷ 0 ∷ 1 ∷ 0 ∷ 0 ∷ 0 ∷ 1 ∷ 0 ∷ 0 ∷ 0 ∷ 0 ∷ 0 ∷ 0 ∷ 5
+    ∷ 0 ∷ 0 ∷ 0 ∷ 0 ∷ 0 ∷ 0 ∷ 0 ∷ 0 ∷ 0 ∷ 0 ∷ 0 ∷ 0 ∷ 0 ∷ 0 ∷ 0 ∷ 0 ∷ []
+
+sizes : (entryEnd true (sized 12) 0 ≡ 0) × (entryEnd true (sized 16) 0 ≡ 16) × (entryEnd true (sized 18) 0 ≡ 0)
+    × (entryEnd true (sized 20) 0 ≡ 20) × (entryEnd true (sized 32) 0 ≡ 32) × (entryEnd true (sized 36) 0 ≡ 0)
+unfolding sized sidEnd headEnd holds entryEnd u16At
+sizes = (refl, refl, refl, refl, refl, refl)

@@ -8,7 +8,7 @@ use mathlib.Core.List.{List}
 use mathlib.Core.Bool.{Bool, true, false, cond, _&&_, _||_}
 use native.Mathlib.Omega.{arith}
 use lib.ListN.{length}
-use borrow.Author.Tests.{lt-ltb, le-ltb, eq-eqb, ne-eqb}
+use borrow.Author.Tests.{lt-ltb, le-ltb, eq-eqb, ne-eqb, le-leb, leb-true}
 use Rattle.base.specs.Bytes.{byteAt, u16At, u32At}
 use Rattle.lists.specs.Sid.{sidEnd}
 use Rattle.lists.specs.Acl.{headEnd, named, fitting, holds, entryEnd, shaped, foreign, scanned, scanOf, noAce, aceAt}
@@ -27,6 +27,13 @@ module _ (l : List ℕ) (at e : ℕ) where
   pub holds-some : (sidEnd l (at + 8) ≡ 0 → ⊥) → holds l at e ≡ fitting (sidEnd l (at + 8)) e
   unfolding holds
   holds-some h = rw (ne-eqb (sidEnd l (at + 8)) 0 h)
+
+  -- the SID ends inside its own entry
+  pub holds-inside : (sidEnd l (at + 8) ≡ 0 → ⊥) → sidEnd l (at + 8) ≤ e → holds l at e ≡ true
+  holds-inside h k = holds-some h ∙ le-leb (sidEnd l (at + 8)) e k
+
+  pub holds-fits : (sidEnd l (at + 8) ≡ 0 → ⊥) → holds l at e ≡ true → sidEnd l (at + 8) ≤ e
+  holds-fits h t = leb-true (sidEnd l (at + 8)) e (sym (holds-some h) ∙ t)
 
 -- an entry ends where its heading says, or is misshapen
 picked : (t u : Bool) (e : ℕ) → (cond t (cond u e 0) e ≡ 0 → ⊥) → cond t (cond u e 0) e ≡ e
@@ -71,6 +78,11 @@ entry-end-shallow l at = refl
 pub entry-end-named : (l : List ℕ) (at : ℕ) → byteAt l at < 2 → entryEnd true l at ≡ cond (holds l at (headEnd l at)) (headEnd l at) 0
 unfolding entryEnd
 entry-end-named l at h = rw (lt-ltb (byteAt l at) 2 h)
+
+-- an allow or deny entry whose SID ends inside it is well shaped
+pub entry-end-whole : (l : List ℕ) (at : ℕ) → byteAt l at < 2 → (sidEnd l (at + 8) ≡ 0 → ⊥) → sidEnd l (at + 8) ≤ headEnd l at →
+    entryEnd true l at ≡ headEnd l at
+entry-end-whole l at n h k = entry-end-named l at n ∙ rw (holds-inside l at (headEnd l at) h k) refl
 
 -- ---- the walk over all entries
 
@@ -173,3 +185,6 @@ module _ (l : List ℕ) (at : ℕ) where
       let t = entry-end-holds n h in
       let z : _≡_ {A = ℕ} 0 1 = cc in
       omega arith
+
+  pub entry-end-fits : byteAt l at < 2 → (entryEnd true l at ≡ 0 → ⊥) → sidEnd l (at + 8) ≤ entryEnd true l at
+  entry-end-fits n h = holds-fits l at (entryEnd true l at) (entry-end-sid n h) (entry-end-holds n h)

@@ -4,6 +4,7 @@ pub mod SidLaws
 pub mod AclSteps
 pub mod EntrySteps
 pub mod AclLaws
+pub mod SpareLaws
 pub mod DescriptorSteps
 pub mod PieceLaws
 pub mod DescriptorLaws

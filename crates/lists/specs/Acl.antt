@@ -3,7 +3,7 @@ use Prim.Native.Nat.{ℕ, zero, suc, _+_, _%_}
 use mathlib.Core.List.{List, [], _∷_}
 use mathlib.Core.Bool.{Bool, true, false, cond, _&&_, _||_}
 use lib.ListN.{length}
-use lib.Dec.{ltb, eqb}
+use lib.Dec.{ltb, leb, eqb}
 use Rattle.base.specs.Bytes.{byteAt, u16At, u32At, part}
 use Rattle.lists.specs.Sid.{sidEnd}
 use Rattle.lists.specs.declared.acl.Ace.{Ace}
@@ -38,11 +38,12 @@ headEnd l at =
 abbrev pub named : ℕ → Bool
 named t = ltb t 2
 
--- "and their size is exactly 8 plus the SID's": the entry ends where its SID does (request 101 changes this line alone)
+-- "Accept a size of 8 plus the SID's length or more" (request 101): the SID ends inside its own entry. The bytes from there to the entry's end
+-- are spare: nothing reads them (Spare.antt)
 abbrev pub fitting : ℕ → ℕ → Bool
-fitting sid-end entry-end = eqb sid-end entry-end
+fitting sid-end entry-end = leb sid-end entry-end
 
--- the entry from a place to its end holds a mask and one SID
+-- the entry from a place to its end holds a mask and one SID, and maybe spare bytes
 unfoldable pub holds : List ℕ → ℕ → ℕ → Bool
 holds l at e = let k = sidEnd l (at + 8) in cond (eqb k 0) false (fitting k e)
 

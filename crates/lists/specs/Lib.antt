@@ -3,5 +3,7 @@
 pub mod Sid
 -- ACL; entries in DACLs and in SACLs
 pub mod Acl
+-- spare bytes in entries
+pub mod Spare
 -- the self-relative descriptor, its parts and its numbers 6, 7 and 8
 pub mod Descriptor

@@ -19,7 +19,7 @@ pub enum Scan {
 }
 
 // An allow or deny entry: its SID stands from `from` to `to`, and `next` is the place after the
-// entry. All 0 where no such entry stands.
+// entry, with spare bytes between the two or none. All 0 where no such entry stands.
 pub struct Ace {
     pub kind: u8,
     pub flags: u8,
@@ -87,7 +87,7 @@ fn head_end(l: &[u8], at: usize) -> usize
     at + n
 }
 
-// Whether the entry from `at` to `e` holds a mask and one SID, and nothing more.
+// Whether the entry from `at` to `e` holds a mask and one SID. What follows the SID is spare.
 fn holds(l: &[u8], at: usize, e: usize) -> bool
     requires { ⌜ at ≤ length (now l) ⌝ }
     ensures { λ r. ⌜ r ≡ holds (now (l .entry)) at e ⌝ }
@@ -96,7 +96,7 @@ fn holds(l: &[u8], at: usize, e: usize) -> bool
     if k == 0 {
         return false;
     }
-    k == e
+    k <= e
 }
 
 // The place after the entry at `at`, or 0. An allow or deny entry's body is judged where `deep`.
@@ -171,7 +171,7 @@ fn no_ace() -> Ace
 pub fn ace_at(l: &[u8], at: usize) -> Ace
     ensures { λ r. ⌜ r ≡ aceAt (now (l .entry)) at ⌝ }
     ensures { λ r. ⌜ (r .from ≤ r .to)
-        × ((r .to ≤ length (now (l .entry))) × (r .next ≤ length (now (l .entry)))) ⌝ }
+        × ((r .to ≤ r .next) × (r .next ≤ length (now (l .entry)))) ⌝ }
 {
     let e = entry_end(l, at, true);
     if e == 0 {

@@ -1,46 +1,59 @@
 -- Readings from a place to the end, and readers.
--- In order: what is left of a list at a place (Left, next-past, left-more); a reading from a place (read-end, read-more) gives the entries
--- left (read-left), and from the first place the list's own (read-all, read-plain); what is shown is one of them (step-own); a reader is
--- its list and its place (reader-same).
+-- In order: a list up to a place has the entries that the list has there (front-stop, front-step, front-entry); a reading from a place
+-- (read-end, read-more, read-left); what is held of a list (held-inside, held-short), and m steps of a reader that was opened on it give its
+-- first m entries (read-any), a long enough reading all of them (read-all, read-plain); a reader is its list and its place (reader-same).
 -- Assumes nothing.
-use Prim.Native.Nat.{ℕ, zero, suc, _+_, _<_, _≤_}
-use mathlib.Core.Path.{_≡_, refl, sym, ap, _∙_}
-use mathlib.Core.List.{List, [], _∷_, List·Memᴰ, List·Memᴰ·head, List·Memᴰ·tail}
-use mathlib.Core.Bool.{Bool, true, false, cond}
+use Prim.Native.Nat.{ℕ, zero, suc, _+_, _-_, _<_, _≤_}
+use mathlib.Core.Path.{_≡_, refl, sym, ap, ap₂, _∙_}
+use mathlib.Core.List.{List, [], _∷_}
+use mathlib.Core.Bool.{Bool, true, false}
 use native.Mathlib.Omega.{arith}
-use lib.ListN.{length}
-use lib.Dec.{eqb}
-use borrow.Author.Tests.{eqb-true, eqb-false}
-use Rattle.base.specs.Bytes.{u16At}
-use Rattle.lists.specs.Acl.{Entry, entryEnd, aceAt, entryOf, entriesAt, entriesOf, scanOf}
+use lib.ListN.{length, take}
+use lib.Seq.{take-all, take-nil}
+use lib.Dec.{eqb, ltb}
+use borrow.Author.Tests.{eqb-true, eqb-false, ltb-true, ltb-false}
+use Rattle.base.specs.Bytes.{byteAt, u16At, part}
+use Rattle.base.proofs.BytesLaws.{length-part, part-short}
+use Rattle.lists.specs.Acl.{Entry, aceAt, entryOf, entriesAt, entriesOf, scanOf}
+use Rattle.lists.specs.Spare.{Agree}
 use Rattle.lists.specs.declared.acl.Ace.{Ace}
 use Rattle.lists.specs.declared.acl.Scan.the-variants.{Plain}
-use Rattle.lists.proofs.EntrySteps.{entry-end-bounds, ace-at-some}
-use Rattle.lists.proofs.AclLaws.{ace-found, plain-reads-all}
+use Rattle.lists.proofs.PartLaws.{byte-of-part}
+use Rattle.lists.proofs.DescriptorSteps.{part-in-past, part-in-inside}
+use Rattle.lists.proofs.AclLaws.{entries-stop, entries-more, entries-short, plain-reads-all}
+use Rattle.lists.proofs.SpareLaws.{ace-bounds, ace-past, ace-alike, entry-alike}
 use Rattle.reader.specs.declared.Entries.{Entries}
 use Rattle.reader.specs.declared.Step.the-variants.{Entry as Shown, End}
-use Rattle.reader.specs.Reading.{shownAmong, stepAt, readAll}
-use Rattle.reader.proofs.StepLaws.{among-none, among-stop, among-here, among-past, step-start}
+use Rattle.reader.specs.Reading.{endFrom, held, stepAt, readAll}
+use Rattle.reader.proofs.StepLaws.{step-none, step-some, end-none, end-stop, end-more, EndLies, end-lies}
 
--- ---- what is left of a list at a place
+-- ---- a list up to a place, and what stands there
 
--- n entries are left at a place: from there on they alone are shown
-abbrev Left : List ℕ → ℕ → ℕ → Type 0
-Left l n at = (place : ℕ) → at ≤ place → stepAt l place ≡ shownAmong l place n at
+module _ (l : List ℕ) (e at : ℕ) where
+  -- nothing stands at the end
+  front-stop : e ≤ at → stepAt (part l 0 e) at ≡ End
+  front-stop h =
+      let n : length (part l 0 e) ≤ e = part-short l e in
+      step-none (part l 0 e) at (ace-past (part l 0 e) at (omega arith))
 
--- an entry ends behind its place
-next-past : (l : List ℕ) (at : ℕ) → (aceAt l at .next ≡ 0 → ⊥) → at < aceAt l at .next
-next-past l at h =
-    let f = ace-found l at h in
-    let i : aceAt l at .next ≡ entryEnd true l at = ap (λ (x : Ace). x .next) (ace-at-some l at (f .0) (f .1)) in
-    let b = entry-end-bounds true l at (f .1) in
-    let b0 : at + 4 ≤ entryEnd true l at = b .0 in
-    omega arith
+  module _ (h : aceAt l at .next ≡ 0 → ⊥) (k : aceAt l at .next ≤ e) (i : e ≤ length l) where
+    front-agrees : Agree l (part l 0 e) at (aceAt l at .to)
+    front-agrees j x y =
+        let f : aceAt l at .to ≤ aceAt l at .next = ace-bounds l at h .fits in
+        let z : 0 + j ≡ j = omega arith in
+        byte-of-part l 0 e j (omega arith) ∙ ap (byteAt l) z
 
-left-more : (l : List ℕ) (n at : ℕ) → (aceAt l at .next ≡ 0 → ⊥) → Left l (suc n) at → Left l n (aceAt l at .next)
-left-more l n at h f place b =
-    let w : at < aceAt l at .next = next-past l at h in
-    f place (omega arith) ∙ among-past l place n at h (λ q. omega arith)
+    front-room : aceAt l at .next ≤ length (part l 0 e)
+    front-room = let n : length (part l 0 e) ≡ e - 0 = length-part l 0 e (omega arith) i in omega arith
+
+    -- an entry that ends there, or before, stands in it as it does in the list
+    front-step : stepAt (part l 0 e) at ≡ Shown (aceAt l at)
+    front-step =
+        let a : aceAt (part l 0 e) at ≡ aceAt l at = ace-alike l (part l 0 e) at h front-agrees front-room in
+        step-some (part l 0 e) at (λ z. h (ap (λ (x : Ace). x .next) (sym a) ∙ z)) ∙ ap Shown a
+
+    front-entry : entryOf (part l 0 e) (aceAt l at) ≡ entryOf l (aceAt l at)
+    front-entry = entry-alike l (part l 0 e) at h front-agrees front-room
 
 -- ---- reading from a place
 
@@ -54,52 +67,77 @@ module _ (l : List ℕ) (n at : ℕ) where
       go zero = refl
       go (suc n) = rw q
 
-  read-more : stepAt l at ≡ Shown (aceAt l at) → readAll l (suc n) at ≡ entryOf l (aceAt l at) ∷ readAll l n (aceAt l at .next)
+  read-more : (a : Ace) → stepAt l at ≡ Shown a → readAll l (suc n) at ≡ entryOf l a ∷ readAll l n (a .next)
   unfolding readAll
-  read-more q = rw q
+  read-more a q = rw q
 
--- n steps or more from a place where n entries are left give these
-pub read-left : (l : List ℕ) (n m at : ℕ) → n ≤ m → Left l n at → readAll l m at ≡ entriesAt l n at
-unfolding entriesAt
-read-left l zero m at h f = read-end l m at (f at (omega arith) ∙ among-none l at 0 at refl)
-read-left l (suc n) zero at h f = absurd (omega arith)
-read-left l (suc n) (suc m) at h f = go (eqb (aceAt l at .next) 0) refl (read-left l n m (aceAt l at .next) (omega arith))
+-- m steps from a place, in a list up to where n entries from there end, give the first m of these
+read-left : (l : List ℕ) (e n m at : ℕ) → e ≡ endFrom l n at → readAll (part l 0 e) m at ≡ take m (entriesAt l n at)
+unfolding readAll entriesAt
+read-left l e n zero at q = refl
+read-left l e zero (suc m) at q =
+    let s : endFrom l 0 at ≡ at = end-none l 0 at refl in
+    read-end (part l 0 e) (suc m) at (front-stop l e at (omega arith))
+read-left l e (suc n) (suc m) at q = go (eqb (aceAt l at .next) 0) refl (read-left l e n m (aceAt l at .next))
   where
     go : (t : Bool) → eqb (aceAt l at .next) 0 ≡ t →
-        (Left l n (aceAt l at .next) → readAll l m (aceAt l at .next) ≡ entriesAt l n (aceAt l at .next)) →
-        readAll l (suc m) at ≡ cond t [] (entryOf l (aceAt l at) ∷ entriesAt l n (aceAt l at .next))
-    go true e r = read-end l (suc m) at (f at (omega arith) ∙ among-stop l at n at (eqb-true _ _ e))
-    go false e r =
-        let x : (aceAt l at .next ≡ 0 → ⊥) = eqb-false _ _ e in
-        read-more l m at (f at (omega arith) ∙ among-here l at n at x refl)
-        ∙ ap (λ (y : List Entry). entryOf l (aceAt l at) ∷ y) (r (left-more l n at x f))
+        (e ≡ endFrom l n (aceAt l at .next) → readAll (part l 0 e) m (aceAt l at .next) ≡ take m (entriesAt l n (aceAt l at .next))) →
+        readAll (part l 0 e) (suc m) at ≡ take (suc m) (entriesAt l (suc n) at)
+    go true t r =
+        let x : aceAt l at .next ≡ 0 = eqb-true _ _ t in
+        let s : endFrom l (suc n) at ≡ at = end-stop l n at x in
+        read-end (part l 0 e) (suc m) at (front-stop l e at (omega arith)) ∙ sym (ap (take (suc m)) (entries-stop l n at x))
+    go false t r =
+        let x : (aceAt l at .next ≡ 0 → ⊥) = eqb-false _ _ t in
+        let s : endFrom l (suc n) at ≡ endFrom l n (aceAt l at .next) = end-more l n at x in
+        let d : EndLies l n (aceAt l at .next) = end-lies l n (aceAt l at .next) in
+        let k : aceAt l at .next ≤ e = omega (arith, d .past) in
+        let i : e ≤ length l = omega (arith, d .inside (ace-bounds l at x .inside)) in
+        read-more (part l 0 e) m at (aceAt l at) (front-step l e at x k i)
+        ∙ ap₂ (λ (y : Entry) (z : List Entry). y ∷ z) (front-entry l e at x k i) (r (q ∙ s))
+        ∙ sym (ap (take (suc m)) (entries-more l n at x))
 
--- reading an opened list to its end gives the definition's entries, for every number of steps from the list's count on
-pub read-all : (l : List ℕ) (m : ℕ) → u16At l 4 ≤ m → readAll l m 8 ≡ entriesOf l
+-- ---- reading an opened list
+
+-- what is held, by whether the list has room for its heading
+held-inside : (l : List ℕ) → 8 ≤ length l → held l ≡ part l 0 (endFrom l (u16At l 4) 8)
+unfolding held
+held-inside l h = part-in-inside l 0 _ (omega arith) (end-lies l (u16At l 4) 8 .inside h)
+
+held-short : (l : List ℕ) → length l < 8 → held l ≡ []
+unfolding held
+held-short l h =
+    let d : EndLies l (u16At l 4) 8 = end-lies l (u16At l 4) 8 in
+    part-in-past l 0 _ (omega arith) (omega (arith, d .past))
+
+short-entries : (l : List ℕ) → length l < 8 → entriesOf l ≡ []
+unfolding entriesOf entriesAt
+short-entries l h = go (u16At l 4)
+  where
+    go : (n : ℕ) → entriesAt l n 8 ≡ []
+    go zero = refl
+    go (suc n) = entries-stop l n 8 (ace-past l 8 (omega arith))
+
+-- m steps of a reader give the first m entries of the list that it was opened on, in stored order, for every m
+pub read-any : (l : List ℕ) (m : ℕ) → readAll (held l) m 8 ≡ take m (entriesOf l)
 unfolding entriesOf
-read-all l m h = read-left l (u16At l 4) m 8 h (λ place b. step-start l place)
+read-any l m = go (ltb (length l) 8) refl
+  where
+    go : (t : Bool) → ltb (length l) 8 ≡ t → readAll (held l) m 8 ≡ take m (entriesAt l (u16At l 4) 8)
+    go true t =
+        let s : length l < 8 = ltb-true _ _ t in
+        ap (λ (x : List ℕ). readAll x m 8) (held-short l s) ∙ read-end [] m 8 (step-none [] 8 (ace-past [] 8 (omega arith)))
+        ∙ sym (ap (take m) (short-entries l s) ∙ take-nil m)
+    go false t =
+        ap (λ (x : List ℕ). readAll x m 8) (held-inside l (ltb-false _ _ t)) ∙ read-left l _ (u16At l 4) m 8 refl
+
+-- from the list's count on they are all of them
+pub read-all : (l : List ℕ) (m : ℕ) → u16At l 4 ≤ m → readAll (held l) m 8 ≡ entriesOf l
+read-all l m h = let n : length (entriesOf l) ≤ u16At l 4 = entries-short l in read-any l m ∙ take-all m (entriesOf l) (omega arith)
 
 -- of an accepted list as many as its count says
-pub read-plain : (l : List ℕ) (m : ℕ) → scanOf true l ≡ Plain → u16At l 4 ≤ m → length (readAll l m 8) ≡ u16At l 4
+pub read-plain : (l : List ℕ) (m : ℕ) → scanOf true l ≡ Plain → u16At l 4 ≤ m → length (readAll (held l) m 8) ≡ u16At l 4
 read-plain l m p h = ap length (read-all l m h) ∙ plain-reads-all l p
-
--- ---- what is shown is one of the list's entries, wherever a reader is put
-
-among-own : (l : List ℕ) (at n p : ℕ) (a : Ace) → shownAmong l at n p ≡ Shown a → List·Memᴰ (entryOf l a) (entriesAt l n p)
-unfolding shownAmong entriesAt
-among-own l at zero p a q = let z : _≡_ {A = ℕ} 0 1 = cc in absurd (omega arith)
-among-own l at (suc n) p a q = go (eqb (aceAt l p .next) 0) (eqb p at) q (among-own l at n (aceAt l p .next) a)
-  where
-    go : (t u : Bool) → cond t End (cond u (Shown (aceAt l p)) (shownAmong l at n (aceAt l p .next))) ≡ Shown a →
-        (shownAmong l at n (aceAt l p .next) ≡ Shown a → List·Memᴰ (entryOf l a) (entriesAt l n (aceAt l p .next))) →
-        List·Memᴰ (entryOf l a) (cond t [] (entryOf l (aceAt l p) ∷ entriesAt l n (aceAt l p .next)))
-    go true u q r = let z : _≡_ {A = ℕ} 0 1 = cc in absurd (omega arith)
-    go false true q r = let s : a ≡ aceAt l p = cc in List·Memᴰ·head (ap (entryOf l) s)
-    go false false q r = List·Memᴰ·tail (r q)
-
-pub step-own : (l : List ℕ) (at : ℕ) (a : Ace) → stepAt l at ≡ Shown a → List·Memᴰ (entryOf l a) (entriesOf l)
-unfolding entriesOf
-step-own l at a q = among-own l at (u16At l 4) 8 a (sym (step-start l at) ∙ q)
 
 -- ---- readers
 

@@ -1,10 +1,10 @@
--- What stands at a place, entry by entry. For `step_at`.
--- In order: n entries from a place (among-none, among-stop, among-here, among-past, among-more) and what holds of one that stands there
--- (Stands, among-stands); the list's own (step-start, step-stands), and how far a step goes (step-moves, step-fits, step-stays,
--- step-inside).
+-- What stands at a place of a held list, and where a list ends. For `step_at`, `end` and `held`.
+-- In order: a step at a place (step-none, step-some), what holds of one that shows an entry (Stands, step-stands), and how far it goes
+-- (step-moves, step-fits, step-stays, step-inside); the place after the last entry (end-none, end-stop, end-more, end-left, EndLies,
+-- end-lies), and what is held (held-is).
 -- Not here: readings from a place to the end, ReadingLaws. Assumes nothing.
 use Prim.Native.Nat.{ℕ, zero, suc, _+_, _-_, _<_, _≤_}
-use mathlib.Core.Path.{_≡_, refl, sym, ap, _∙_}
+use mathlib.Core.Path.{_≡_, refl, ap, _∙_}
 use mathlib.Core.List.{List}
 use mathlib.Core.Bool.{Bool, true, false, cond}
 use native.Mathlib.Omega.{arith}
@@ -12,86 +12,47 @@ use lib.ListN.{length}
 use lib.Dec.{eqb}
 use borrow.Author.Tests.{eq-eqb, ne-eqb, eqb-true, eqb-false}
 use Rattle.base.specs.Bytes.{u16At}
-use Rattle.lists.specs.Acl.{headEnd, fitting, entryEnd, aceAt}
+use Rattle.lists.specs.Acl.{aceAt}
+use Rattle.lists.specs.Descriptor.{partIn}
 use Rattle.lists.specs.declared.acl.Ace.{Ace}
-use Rattle.lists.proofs.AclSteps.{HeadAt, head-at}
-use Rattle.lists.proofs.EntrySteps.{holds-some, entry-end-is, entry-end-bounds, ace-at-some, entry-end-holds, entry-end-sid}
-use Rattle.lists.proofs.AclLaws.{ace-found}
+use Rattle.lists.proofs.SpareLaws.{ace-next, ace-bounds}
 use Rattle.reader.specs.declared.Step.the-variants.{Entry as Shown, End}
-use Rattle.reader.specs.Reading.{shownAmong, stepAt, placeAfter, nextPlace}
+use Rattle.reader.specs.Reading.{endFrom, held, stepAt, placeAfter, nextPlace}
 
--- ---- n entries from a place
-
-module _ (l : List ℕ) (at n p : ℕ) where
-  pub among-none : n ≡ 0 → shownAmong l at n p ≡ End
-  unfolding shownAmong
-  among-none e = rw e
-
-  pub among-stop : aceAt l p .next ≡ 0 → shownAmong l at (suc n) p ≡ End
-  unfolding shownAmong
-  among-stop e = rw (eq-eqb (aceAt l p .next) 0 e)
-
-  pub among-here : (aceAt l p .next ≡ 0 → ⊥) → p ≡ at → shownAmong l at (suc n) p ≡ Shown (aceAt l p)
-  unfolding shownAmong
-  among-here e q = rw (ne-eqb (aceAt l p .next) 0 e, eq-eqb p at q)
-
-  pub among-past : (aceAt l p .next ≡ 0 → ⊥) → (p ≡ at → ⊥) → shownAmong l at (suc n) p ≡ shownAmong l at n (aceAt l p .next)
-  unfolding shownAmong
-  among-past e q = rw (ne-eqb (aceAt l p .next) 0 e, ne-eqb p at q)
-
--- k of m entries are passed, and there are more
-pub among-more : (l : List ℕ) (at m k p : ℕ) → k < m → shownAmong l at (m - k) p ≡ shownAmong l at (suc (m - (k + 1))) p
-among-more l at m k p h = ap (λ (n : ℕ). shownAmong l at n p) (omega arith)
+-- ---- a step at a place
 
 -- the entry that a step shows is the definition's at that place, and one stands there
 pub record Stands (l : List ℕ) (at : ℕ) (a : Ace) : Type 0 where
   pub same : a ≡ aceAt l at
   pub some : aceAt l at .next ≡ 0 → ⊥
 
-pub among-stands : (l : List ℕ) (at n p : ℕ) (a : Ace) → shownAmong l at n p ≡ Shown a → Stands l at a
-unfolding shownAmong
-among-stands l at zero p a q = let z : _≡_ {A = ℕ} 0 1 = cc in absurd (omega arith)
-among-stands l at (suc n) p a q = go (eqb (aceAt l p .next) 0) refl (eqb p at) refl q (among-stands l at n (aceAt l p .next) a)
-  where
-    go : (t : Bool) → eqb (aceAt l p .next) 0 ≡ t → (u : Bool) → eqb p at ≡ u →
-        cond t End (cond u (Shown (aceAt l p)) (shownAmong l at n (aceAt l p .next))) ≡ Shown a →
-        (shownAmong l at n (aceAt l p .next) ≡ Shown a → Stands l at a) → Stands l at a
-    go true e u f q r = let z : _≡_ {A = ℕ} 0 1 = cc in absurd (omega arith)
-    go false e true f q r =
-        let s : a ≡ aceAt l p = cc in
-        let w : p ≡ at = eqb-true _ _ f in
-        rw (sym w) (record { same = s; some = eqb-false _ _ e })
-    go false e false f q r = r q
-
--- ---- the list's own entries
-
 module _ (l : List ℕ) (at : ℕ) where
-  pub step-start : stepAt l at ≡ shownAmong l at (u16At l 4) 8
+  pub step-none : aceAt l at .next ≡ 0 → stepAt l at ≡ End
   unfolding stepAt
-  step-start = refl
+  step-none e = rw (eq-eqb (aceAt l at .next) 0 e)
+
+  pub step-some : (aceAt l at .next ≡ 0 → ⊥) → stepAt l at ≡ Shown (aceAt l at)
+  unfolding stepAt
+  step-some e = rw (ne-eqb (aceAt l at .next) 0 e)
 
   pub step-stands : (a : Ace) → stepAt l at ≡ Shown a → Stands l at a
-  step-stands a q = among-stands l at (u16At l 4) 8 a (sym step-start ∙ q)
+  unfolding stepAt
+  step-stands a q = go (eqb (aceAt l at .next) 0) refl q
+    where
+      go : (t : Bool) → eqb (aceAt l at .next) 0 ≡ t → cond t End (Shown (aceAt l at)) ≡ Shown a → Stands l at a
+      go true e q = let z : _≡_ {A = ℕ} 0 1 = cc in absurd (omega arith)
+      go false e q = let s : a ≡ aceAt l at = cc in record { same = s; some = eqb-false _ _ e }
 
   -- "size u16": a step goes to the place after the entry, by exactly the size that the entry's heading says
   pub step-moves : (a : Ace) → stepAt l at ≡ Shown a → (nextPlace l at ≡ aceAt l at .next) × (nextPlace l at ≡ at + u16At l (at + 2))
   step-moves a q =
       let s : Stands l at a = step-stands a q in
-      let f = ace-found l at (s .some) in
       let e : nextPlace l at ≡ aceAt l at .next = ap (placeAfter at) q ∙ ap (λ (x : Ace). x .next) (s .same) in
-      let i : aceAt l at .next ≡ entryEnd true l at = ap (λ (x : Ace). x .next) (ace-at-some l at (f .0) (f .1)) in
-      let w : entryEnd true l at ≡ headEnd l at = entry-end-is true l at (f .1) in
-      let h : HeadAt l at = head-at l at (λ z. f .1 (w ∙ z)) in
-      (e, e ∙ i ∙ w ∙ h .ends)
+      (e, e ∙ ace-next l at (s .some))
 
-  -- "and their size is exactly 8 plus the SID's": the entry ends where its SID does
-  pub step-fits : (a : Ace) → stepAt l at ≡ Shown a → fitting (a .to) (a .next) ≡ true
-  step-fits a q =
-      let s : Stands l at a = step-stands a q in
-      let f = ace-found l at (s .some) in
-      ap (λ (x : Ace). fitting (x .to) (x .next)) (s .same ∙ ace-at-some l at (f .0) (f .1))
-      ∙ sym (holds-some l at (entryEnd true l at) (entry-end-sid l at (f .0) (f .1)))
-      ∙ entry-end-holds l at (f .0) (f .1)
+  -- "8 plus the SID's length or more": the SID ends inside its own entry
+  pub step-fits : (a : Ace) → stepAt l at ≡ Shown a → a .to ≤ a .next
+  step-fits a q = let s : Stands l at a = step-stands a q in rw (s .same) (ace-bounds l at (s .some) .fits)
 
   pub step-stays : stepAt l at ≡ End → nextPlace l at ≡ at
   step-stays q = ap (placeAfter at) q
@@ -100,9 +61,52 @@ module _ (l : List ℕ) (at : ℕ) where
   pub step-inside : (a : Ace) → stepAt l at ≡ Shown a → (at < a .next) × (a .next ≤ length l)
   step-inside a q =
       let s : Stands l at a = step-stands a q in
-      let f = ace-found l at (s .some) in
-      let i : a .next ≡ entryEnd true l at = ap (λ (x : Ace). x .next) (s .same ∙ ace-at-some l at (f .0) (f .1)) in
-      let b = entry-end-bounds true l at (f .1) in
-      let b0 : at + 4 ≤ entryEnd true l at = b .0 in
-      let b1 : entryEnd true l at ≤ length l = b .1 in
-      (omega arith, omega arith)
+      rw (s .same) (ace-bounds l at (s .some) .past, ace-bounds l at (s .some) .inside)
+
+-- ---- the place after the last entry
+
+module _ (l : List ℕ) (n p : ℕ) where
+  pub end-none : n ≡ 0 → endFrom l n p ≡ p
+  unfolding endFrom
+  end-none e = rw e
+
+  pub end-stop : aceAt l p .next ≡ 0 → endFrom l (suc n) p ≡ p
+  unfolding endFrom
+  end-stop e = rw (eq-eqb (aceAt l p .next) 0 e)
+
+  pub end-more : (aceAt l p .next ≡ 0 → ⊥) → endFrom l (suc n) p ≡ endFrom l n (aceAt l p .next)
+  unfolding endFrom
+  end-more e = rw (ne-eqb (aceAt l p .next) 0 e)
+
+-- k of m entries are passed, and there are more
+pub end-left : (l : List ℕ) (m k p : ℕ) → k < m → endFrom l (m - k) p ≡ endFrom l (suc (m - (k + 1))) p
+end-left l m k p h = ap (λ (n : ℕ). endFrom l n p) (omega arith)
+
+-- it lies at the place itself or behind it, and in the list
+pub record EndLies (l : List ℕ) (n p : ℕ) : Type 0 where
+  pub past : p ≤ endFrom l n p
+  pub inside : p ≤ length l → endFrom l n p ≤ length l
+
+pub end-lies : (l : List ℕ) (n p : ℕ) → EndLies l n p
+end-lies l zero p =
+    let e : endFrom l 0 p ≡ p = end-none l 0 p refl in
+    record { past = omega arith; inside = λ h. omega arith }
+end-lies l (suc n) p = go (eqb (aceAt l p .next) 0) refl (end-lies l n (aceAt l p .next))
+  where
+    go : (t : Bool) → eqb (aceAt l p .next) 0 ≡ t → EndLies l n (aceAt l p .next) → EndLies l (suc n) p
+    go true e r =
+        let s : endFrom l (suc n) p ≡ p = end-stop l n p (eqb-true _ _ e) in
+        record { past = omega arith; inside = λ h. omega arith }
+    go false e r =
+        let x : (aceAt l p .next ≡ 0 → ⊥) = eqb-false _ _ e in
+        let s : endFrom l (suc n) p ≡ endFrom l n (aceAt l p .next) = end-more l n p x in
+        let b0 : p < aceAt l p .next = ace-bounds l p x .past in
+        let b1 : aceAt l p .next ≤ length l = ace-bounds l p x .inside in
+        let r0 : aceAt l p .next ≤ endFrom l n (aceAt l p .next) = r .past in
+        let r1 : endFrom l n (aceAt l p .next) ≤ length l = r .inside b1 in
+        record { past = omega arith; inside = λ h. omega arith }
+
+-- a list up to there is what is held of it
+pub held-is : (l : List ℕ) (e : ℕ) → e ≡ endFrom l (u16At l 4) 8 → partIn l 0 e ≡ held l
+unfolding held
+held-is l e q = ap (partIn l 0) q

@@ -1,26 +1,32 @@
 -- "The entry reader keeps the list it was opened on and its place in that list."
 -- A list has as many entries as its heading counts, back to back from place 8; bytes after the last are accepted, and are none of them.
--- So what stands at a place is asked of the list, from its heading on: no place that a reader can be put at shows anything else.
+-- So opening finds the place after the last entry, once, and the reader holds the list up to there: at every place that it comes to stands
+-- an entry of the list, or the end. "What the entry reader promises changes" (request 101): the next entry begins where the size says.
 use Prim.Native.Nat.{ℕ, zero, suc}
 use mathlib.Core.List.{List, [], _∷_}
 use mathlib.Core.Bool.{cond}
 use lib.Dec.{eqb}
 use Rattle.base.specs.Bytes.{u16At}
 use Rattle.lists.specs.Acl.{Entry, aceAt, entryOf}
+use Rattle.lists.specs.Descriptor.{partIn}
 use Rattle.reader.specs.declared.Step.{Step}
 use Rattle.reader.specs.declared.Step.the-variants.{Entry as Shown, End}
 
--- what n entries back to back from place p have at a place: the one that begins there, or the end
-unfoldable pub shownAmong : List ℕ → ℕ → ℕ → ℕ → Step
-shownAmong l at zero p = End
-shownAmong l at (suc n) p =
+-- the place after the last of n entries back to back from place p; an entry that is no well shaped allow or deny entry is not passed
+unfoldable pub endFrom : List ℕ → ℕ → ℕ → ℕ
+endFrom l zero p = p
+endFrom l (suc n) p =
     let a = aceAt l p in
-    let r = shownAmong l at n (a .next) in
-    cond (eqb (a .next) 0) End (cond (eqb p at) (Shown a) r)
+    let r = endFrom l n (a .next) in
+    cond (eqb (a .next) 0) p r
 
--- what stands at a place of a list: one of its own entries, or the end
+-- what a reader holds of the list that it was opened on: its heading and its entries
+unfoldable pub held : List ℕ → List ℕ
+held l = partIn l 0 (endFrom l (u16At l 4) 8)
+
+-- what stands at a place of a held list: the entry that begins there, or the end
 unfoldable pub stepAt : List ℕ → ℕ → Step
-stepAt l at = shownAmong l at (u16At l 4) 8
+stepAt l at = let a = aceAt l at in cond (eqb (a .next) 0) End (Shown a)
 
 -- the place after what stands at a place; the end is not left
 abbrev pub placeAfter : ℕ → Step → ℕ

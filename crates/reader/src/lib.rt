@@ -1,12 +1,14 @@
 // "The entry reader keeps the list it was opened on and its place in that list." A struct of these
-// two, and thin functions over it; the work is `step_at`, on the list and a place.
-// How many entries are left is not kept beside the place: bytes after the last entry are accepted,
-// so `step_at` counts from the list's own heading. A reader then is its list and its place, and one
-// that is put at a place where no entry of the list begins stands at the end. The price is a walk
-// from the heading at each step.
+// two, and thin functions over it; the work is `held`, on the list, and `step_at`, on the list and a
+// place.
+// How many entries are left is not kept beside the place. Bytes after the last entry are accepted,
+// so opening walks the list once, by its own count, and the reader holds the list up to its last
+// entry: there it ends. A step then reads one entry, and a whole reading is linear.
 ghost use mathlib.Core.Path.{_≡_};
-ghost use Rattle.reader.specs.Reading.{stepAt, nextPlace};
+ghost use Rattle.reader.specs.Reading.{endFrom, held, stepAt, nextPlace};
+ghost use Rattle.base.specs.Bytes.{u16At};
 use lists::Ace;
+use lists::Extent;
 
 // What stands at a place of a list: one of its allow and deny entries, or the end.
 pub enum Step {
@@ -14,15 +16,15 @@ pub enum Step {
     End,
 }
 
-// The list that it was opened on, and its place in that list.
+// The list that it was opened on, up to its last entry, and its place in that list.
 pub struct Entries<'a> {
     pub list: &'a [u8],
     pub at: usize,
 }
 
-// What stands at a place of a list.
-pub fn step_at(list: &[u8], at: usize) -> Step
-    ensures { λ r. ⌜ r ≡ stepAt (now (list .entry)) at ⌝ }
+// The place after the last entry of a list.
+fn end(list: &[u8]) -> usize
+    ensures { λ r. ⌜ r ≡ endFrom (now (list .entry)) (u16At (now (list .entry)) 4) 8 ⌝ }
 {
     let n = base::u16_at(list, 4);
     let mut p: usize = 8;
@@ -30,15 +32,31 @@ pub fn step_at(list: &[u8], at: usize) -> Step
     while k < n {
         let a = lists::ace_at(list, p);
         if a.next == 0 {
-            return Step::End;
-        }
-        if p == at {
-            return Step::Entry(a);
+            return p;
         }
         p = a.next;
         k += 1;
     }
-    Step::End
+    p
+}
+
+// The list up to its last entry, without the bytes after it.
+pub fn held(list: &[u8]) -> &[u8]
+    ensures { λ r. ⌜ now r ≡ held (now (list .entry)) ⌝ }
+{
+    let to = end(list);
+    lists::part(list, Extent { from: 0, to })
+}
+
+// What stands at a place of a held list.
+pub fn step_at(list: &[u8], at: usize) -> Step
+    ensures { λ r. ⌜ r ≡ stepAt (now (list .entry)) at ⌝ }
+{
+    let a = lists::ace_at(list, at);
+    if a.next == 0 {
+        return Step::End;
+    }
+    Step::Entry(a)
 }
 
 // The place after what stands at a place; at the end, the same place.
@@ -51,14 +69,17 @@ pub fn next_place(list: &[u8], at: usize) -> usize
     }
 }
 
-// A reader of the list, at its first entry's place.
+// A reader of the list, at its first entry's place. The one walk over the whole list.
 pub fn opened<'a>(list: &'a [u8]) -> Entries<'a>
-    ensures { λ r. ⌜ (r .list ≡ list .entry) × (r .at ≡ 8) ⌝ }
+    ensures { λ r. ⌜ (now (r .list) ≡ held (now (list .entry))) × (r .at ≡ 8) ⌝ }
 {
-    Entries { list, at: 8 }
+    Entries {
+        list: held(list),
+        at: 8,
+    }
 }
 
-// A reader of the list that is put at a place, as one that was opened and stepped on before.
+// A reader put together again of its list, which is a held one, and its place in that list.
 pub fn placed<'a>(list: &'a [u8], at: usize) -> Entries<'a>
     ensures { λ r. ⌜ (r .list ≡ list .entry) × (r .at ≡ at) ⌝ }
 {
@@ -81,7 +102,7 @@ pub fn stepped<'a>(r: Entries<'a>) -> Entries<'a>
     Entries { list: r.list, at }
 }
 
-// The list that the reader was opened on.
+// The list that the reader holds.
 pub fn list<'a>(r: Entries<'a>) -> &'a [u8]
     ensures { λ s. ⌜ s ≡ r .entry .list ⌝ }
 {
@@ -97,12 +118,12 @@ pub fn place<'a>(r: Entries<'a>) -> usize
 
 // The first entry of a list, by a reader opened on it.
 pub fn first(list: &[u8]) -> Step
-    ensures { λ r. ⌜ r ≡ stepAt (now (list .entry)) 8 ⌝ }
+    ensures { λ r. ⌜ r ≡ stepAt (held (now (list .entry))) 8 ⌝ }
 {
     current(opened(list))
 }
 
-// What follows on what stands at a place of a list, by a reader that is put there and stepped.
+// What follows on what stands at a place of a held list, by a reader that is put there and stepped.
 pub fn after(list: &[u8], at: usize) -> Step
     ensures { λ r. ⌜ r ≡ stepAt (now (list .entry)) (nextPlace (now (list .entry)) at) ⌝ }
 {

@@ -1,12 +1,13 @@
 //! What is timed. All identities have one word and differ in it alone, so that a comparison has
 //! to look at their last bytes, and 3,000 entries of 20 bytes fit a descriptor.
 
-use pirasteh_cases::make::{self, acl, allow, deny, policy, sid, Descriptor, Rule, Token};
+use pirasteh_cases::make::{self, acl, long_entry, policy, sid, Descriptor, Rule, Token};
 
 pub struct Input {
     pub entries: usize,
     pub identities: usize,
     pub early: bool,
+    pub spare: usize,
     pub rules: usize,
     pub masks: Vec<u32>,
     pub token: Vec<u8>,
@@ -24,6 +25,15 @@ impl Input {
     /// A list of strangers, or one whose first entry allows the user everything. `identities` are
     /// the user and enabled groups.
     pub fn new(entries: usize, identities: usize, early: bool, rules: usize) -> Input {
+        Input::made(entries, identities, early, 0, rules)
+    }
+
+    /// A list of strangers, each with this many spare bytes behind the SID.
+    pub fn long(entries: usize, identities: usize, spare: usize) -> Input {
+        Input::made(entries, identities, false, spare, 0)
+    }
+
+    fn made(entries: usize, identities: usize, early: bool, spare: usize, rules: usize) -> Input {
         let people: Vec<Vec<u8>> =
             (0..identities as u32).map(|i| sid(5, &[1_000_000 + i])).collect();
         let mut token = Token::of(&people[0]);
@@ -39,11 +49,8 @@ impl Input {
                 } else {
                     sid(5, &[2_000_000 + i as u32])
                 };
-                all.push(if i % 4 == 3 {
-                    deny(0x1000_0000, &who)
-                } else {
-                    allow(0x1000_0000, &who)
-                });
+                let kind = u8::from(i % 4 == 3);
+                all.push(long_entry(kind, 0, 0x1000_0000, &who, &vec![0; spare]));
                 named.push(who);
             }
             acl(&all)
@@ -61,6 +68,7 @@ impl Input {
             entries,
             identities,
             early,
+            spare,
             rules,
             masks,
             token: token.record(),

@@ -20,20 +20,9 @@ fn main() {
     println!("plain: a plain Rust implementation written for speed, tests/bench/src/plain.rs.");
     println!("memcmp: every entry's SID against every identity by memcmp; nothing is parsed.");
     println!("match: no entry names the asker, or the first one does and allows everything.");
+    println!("spare: none does, and each entry has so many spare bytes behind its SID.");
     println!();
-    println!(
-        "{:>7} {:>10} {:>6} {:>6} {:>5} {:>12} {:>12} {:>7} {:>12} {:>7}",
-        "entries",
-        "identities",
-        "match",
-        "rules",
-        "calls",
-        "library",
-        "plain",
-        "ratio",
-        "memcmp",
-        "ratio"
-    );
+    heading("match");
     for entries in [8, 500, 3000] {
         for identities in [1, 21, 257] {
             for early in [false, true] {
@@ -48,7 +37,21 @@ fn main() {
         }
     }
     println!();
+    heading("spare");
+    for (entries, spare, calls) in [(500, 4, 1), (500, 4, 40), (60, 980, 1)] {
+        let input = Input::long(entries, 21, spare);
+        same_answers(&input);
+        row(&input, calls);
+    }
+    println!();
     conversions();
+}
+
+fn heading(third: &str) {
+    println!(
+        "{:>7} {:>10} {third:>6} {:>6} {:>5} {:>12} {:>12} {:>7} {:>12} {:>7}",
+        "entries", "identities", "rules", "calls", "library", "plain", "ratio", "memcmp", "ratio"
+    );
 }
 
 fn library(input: &Input, mask: u32) -> Result<plain::Answer, u32> {
@@ -109,11 +112,15 @@ fn row(input: &Input, calls: usize) {
         masks.iter().for_each(|_| keep(compare_only(black_box(&entries), black_box(&identities))))
     };
     let [library, plain, memcmp] = best([&mut ask_library, &mut ask_plain, &mut scan]);
+    let third = match input.spare {
+        0 if input.early => "first".to_string(),
+        0 => "none".to_string(),
+        spare => spare.to_string(),
+    };
     print!(
-        "{:>7} {:>10} {:>6} {:>6} {:>5} {library:>12} {plain:>12} {:>7}",
+        "{:>7} {:>10} {third:>6} {:>6} {:>5} {library:>12} {plain:>12} {:>7}",
         input.entries,
         input.identities,
-        if input.early { "first" } else { "none" },
         input.rules,
         calls,
         library.ratio(plain),

@@ -312,7 +312,7 @@ fn a_list(rng: &mut Rng, laid: &mut Laid) {
     let left = (laid.bytes.len() - at) as u16;
     let size = laid.u16_at(at + 2);
     let count = laid.u16_at(at + 4);
-    let which = if entries.is_empty() { rng.below(4) } else { rng.below(10) };
+    let which = if entries.is_empty() { rng.below(4) } else { rng.below(14) };
     match which {
         0 => laid.bytes[at] = rng.of(&[0, 1, 2, 3, 4, 5, 0xFF]),
         1 | 2 => {
@@ -379,13 +379,53 @@ fn a_list(rng: &mut Rng, laid: &mut Laid) {
                     rng.of(&[0, 15, 16, 0xFF, count.wrapping_add(1), count.wrapping_sub(1)]);
             }
         }
-        _ => {
+        9 => {
             // An entry of a header alone: well shaped in a SACL or of another type.
             let entry = rng.of(&entries);
             laid.bytes[entry] = rng.of(&[0, 1, 5]);
             laid.put_u16(entry + 2, 4);
             laid.put_u16(at + 4, 1 + rng.below(usize::from(count)) as u16);
         }
+        _ => {
+            let entry = rng.of(&entries);
+            end_of_sid(rng, laid, at, entry);
+        }
+    }
+}
+
+/// A SID that ends at the end of its entry, or just behind it, or an entry that ends elsewhere.
+fn end_of_sid(rng: &mut Rng, laid: &mut Laid, list: usize, entry: usize) {
+    if entry + 16 > laid.bytes.len() {
+        return;
+    }
+    let size = usize::from(laid.u16_at(entry + 2));
+    let words = usize::from(laid.bytes[entry + 9]);
+    let hold = |bytes: usize| bytes.saturating_sub(16) / 4;
+    match rng.below(8) {
+        // As many words as the entry holds.
+        0 => laid.bytes[entry + 9] = hold(size).min(15) as u8,
+        // One more, or a few: then the SID ends in the next entry.
+        1 | 2 => laid.bytes[entry + 9] = (hold(size) + 1).min(16) as u8,
+        3 => laid.bytes[entry + 9] = (hold(size) + 1 + rng.below(8)).min(15) as u8,
+        // As many as the list holds.
+        4 => {
+            let end = list + usize::from(laid.u16_at(list + 2));
+            laid.bytes[entry + 9] = hold(end.saturating_sub(entry)).min(15) as u8;
+        }
+        // The entry ends one word before its SID, and there begins another.
+        5 | 6 => {
+            let end = 12 + 4 * words;
+            if words == 0 || end >= size || entry + end + 4 > laid.bytes.len() {
+                return;
+            }
+            let kind = rng.of(&[0, 1, 5, 5, 5]);
+            laid.bytes[entry + end..entry + end + 2].copy_from_slice(&[kind, 0]);
+            laid.put_u16(entry + end + 2, (size - end) as u16);
+            laid.put_u16(entry + 2, end as u16);
+            let count = laid.u16_at(list + 4);
+            laid.put_u16(list + 4, count.wrapping_add(1));
+        }
+        _ => laid.put_u16(entry + 2, (size + 1 + rng.below(3)) as u16),
     }
 }
 
@@ -422,7 +462,7 @@ fn another_type(rng: &mut Rng, laid: &mut Laid) {
 fn spoiled_policy(rng: &mut Rng, mut rules: Vec<LaidRule>) -> Vec<u8> {
     if rules.is_empty() || rng.one_in(4) {
         let people = People::new(rng);
-        rules.push(random::rule(rng, &people));
+        rules.push(random::rule(rng, &people, 0));
     }
     let which = rng.below(16);
     match which {

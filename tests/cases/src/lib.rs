@@ -8,5 +8,6 @@ pub mod make;
 mod people;
 pub mod random;
 mod rng;
+mod spare;
 
 pub use rng::Rng;

@@ -117,8 +117,14 @@ impl Token {
 
 /// An entry with a mask and a SID, and the size that fits.
 pub fn entry(kind: u8, flags: u8, mask: u32, sid: &[u8]) -> Vec<u8> {
+    long_entry(kind, flags, mask, sid, &[])
+}
+
+/// The same with spare bytes behind the SID.
+pub fn long_entry(kind: u8, flags: u8, mask: u32, sid: &[u8], spare: &[u8]) -> Vec<u8> {
     let mut body = mask.to_le_bytes().to_vec();
     body.extend(sid);
+    body.extend(spare);
     bare_entry(kind, flags, &body)
 }
 

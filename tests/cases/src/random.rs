@@ -5,6 +5,7 @@ use crate::damage;
 use crate::make::{self, Question, Token};
 use crate::people::{self, People};
 use crate::rng::Rng;
+use crate::spare;
 
 /// One call of the library.
 pub enum Case {
@@ -293,8 +294,18 @@ fn self_identity(rng: &mut Rng, people: &People) -> Vec<u8> {
     }
 }
 
-/// A well-shaped list: types 0 and 1 for a DACL, anything for a SACL.
-fn list(rng: &mut Rng, people: &People, is_dacl: bool, most: usize) -> (Vec<u8>, Place) {
+/// The longest list, since its size is a u16.
+const LONGEST_LIST: usize = 65_535;
+
+/// A well-shaped list: types 0 and 1 for a DACL, anything for a SACL. Its entries are not more than
+/// `most`, and it is stretched into no more than `room` bytes.
+fn list(
+    rng: &mut Rng,
+    people: &People,
+    is_dacl: bool,
+    most: usize,
+    room: usize,
+) -> (Vec<u8>, Place) {
     let count = match rng.below(10) {
         0 => 0,
         1..=7 => 1 + rng.below(most.min(5)),
@@ -302,6 +313,7 @@ fn list(rng: &mut Rng, people: &People, is_dacl: bool, most: usize) -> (Vec<u8>,
     };
     let mut bytes = vec![rng.of(&[2, 4]), rng.of(&[0, 0, 0xFF]), 0, 0, 0, 0, 0, rng.of(&[0, 7])];
     let mut entries = Vec::new();
+    let with_spare = is_dacl && rng.one_in(4);
     for _ in 0..count {
         if bytes.len() > 60_000 {
             break;
@@ -314,7 +326,12 @@ fn list(rng: &mut Rng, people: &People, is_dacl: bool, most: usize) -> (Vec<u8>,
         };
         if is_dacl {
             let kind = u8::from(rng.one_in(3));
-            bytes.extend(make::entry(kind, flags, entry_mask(rng), &people.one_or_virtual(rng)));
+            let mask = entry_mask(rng);
+            bytes.extend(if with_spare && rng.one_in(2) {
+                spare::entry(rng, people, kind, flags, mask)
+            } else {
+                make::entry(kind, flags, mask, &people.one_or_virtual(rng))
+            });
         } else if rng.one_in(2) {
             bytes.extend(make::entry(2, flags, entry_mask(rng), &people.one(rng)));
         } else {
@@ -323,9 +340,16 @@ fn list(rng: &mut Rng, people: &People, is_dacl: bool, most: usize) -> (Vec<u8>,
         }
     }
     if rng.one_in(6) {
-        // Spare bytes of any number; they may look like an entry.
-        let spare = 1 + rng.below(30);
-        bytes.extend(rng.bytes(spare));
+        // Spare bytes of any number, behind all that is counted; they may look like an entry.
+        if rng.one_in(2) {
+            let spare = 1 + rng.below(30);
+            bytes.extend(rng.bytes(spare));
+        } else {
+            bytes.extend(spare::stuff(rng, people));
+        }
+    }
+    if is_dacl && !entries.is_empty() && rng.one_in(400) {
+        stretch(rng, people, &mut bytes, &mut entries, room);
     }
     let size = (bytes.len() as u16).to_le_bytes();
     let number = (entries.len() as u16).to_le_bytes();
@@ -334,6 +358,28 @@ fn list(rng: &mut Rng, people: &People, is_dacl: bool, most: usize) -> (Vec<u8>,
     (bytes, Place { at: 0, entries, is_dacl })
 }
 
+/// Gives one entry of a list very many spare bytes. The list then fills no more than `room`.
+fn stretch(
+    rng: &mut Rng,
+    people: &People,
+    bytes: &mut Vec<u8>,
+    entries: &mut [usize],
+    room: usize,
+) {
+    let more = spare::stretch(rng, room.saturating_sub(bytes.len()));
+    let which = rng.below(entries.len());
+    let at = entries[which];
+    let size = usize::from(u16::from_le_bytes([bytes[at + 2], bytes[at + 3]]));
+    let behind = bytes.split_off(at + size);
+    bytes.extend(spare::many(&spare::stuff(rng, people), more));
+    bytes.extend(behind);
+    bytes[at + 2..at + 4].copy_from_slice(&((size + more) as u16).to_le_bytes());
+    for later in &mut entries[which + 1..] {
+        *later += more;
+    }
+}
+
+const LONGEST_DESCRIPTOR: usize = 65_535;
 const OWNER: usize = 4;
 const GROUP: usize = 8;
 const SACL: usize = 12;
@@ -370,13 +416,15 @@ fn descriptor(rng: &mut Rng, people: &People) -> Laid {
                 });
             }
             SACL if has_sacl => {
-                let (bytes, place) = list(rng, people, false, most);
+                let (bytes, place) = list(rng, people, false, most, 0);
                 laid.bytes.extend(bytes);
                 laid.lists.push(place.moved(at));
                 control |= 0x0010;
             }
             DACL if has_dacl => {
-                let (bytes, place) = list(rng, people, true, most);
+                // As the last part it may fill the descriptor; others need no more than 1,500 bytes.
+                let end = if order[3] == DACL { LONGEST_DESCRIPTOR } else { 64_000 };
+                let (bytes, place) = list(rng, people, true, most, end.saturating_sub(at));
                 laid.bytes.extend(bytes);
                 laid.lists.push(place.moved(at));
                 control |= 0x0004;
@@ -442,12 +490,15 @@ fn policy(rng: &mut Rng, people: &People) -> Option<Vec<LaidRule>> {
         return None;
     }
     let count = if rng.one_in(1000) { rng.of(&[32, 255, 256, 257]) } else { rng.below(4) };
-    Some((0..count).map(|_| rule(rng, people)).collect())
+    // Many rules with very long lists would not make a policy.
+    let room = if count < 4 { LONGEST_LIST } else { 0 };
+    Some((0..count).map(|_| rule(rng, people, room)).collect())
 }
 
-pub fn rule(rng: &mut Rng, people: &People) -> LaidRule {
+/// A rule, whose DACLs may be stretched into `room` bytes.
+pub fn rule(rng: &mut Rng, people: &People, room: usize) -> LaidRule {
     let mut section =
-        |is_dacl, one_in: usize| rng.one_in(one_in).then(|| list(rng, people, is_dacl, 5));
+        |is_dacl, one_in: usize| rng.one_in(one_in).then(|| list(rng, people, is_dacl, 5, room));
     LaidRule {
         applies_to: Vec::new(),
         lists: [section(true, 1), section(false, 6), section(true, 2), section(false, 6)],

@@ -3,7 +3,9 @@
 
 use crate::fence;
 use crate::library::{Library, Said};
+use crate::spare;
 use pirasteh_cases::hex;
+use pirasteh_cases::make::Question;
 use pirasteh_cases::random::{self, Case};
 use pirasteh_cases::Rng;
 use pirasteh_reference as reference;
@@ -26,12 +28,25 @@ const STATUS: [&str; 13] = [
     "question file",
 ];
 
+/// What has to be reached besides.
+const REACHED: [&str; 7] = [
+    "accepted, with spare bytes in an entry of the descriptor's DACL",
+    "accepted, with spare bytes in an entry of an effective DACL",
+    "accepted, with spare bytes in an entry of a staged DACL",
+    "accepted, with an entry of more than 60,000 bytes",
+    "refused 6, only because a SID ends behind its entry",
+    "refused 9, only because a SID ends behind its entry",
+    "asked once more, with other spare bytes in its entries",
+];
+const TWIN: usize = 6;
+
 /// After this many differences the rest is not looked at.
 const ENOUGH: u32 = 5;
 
 #[derive(Default)]
 struct Tally {
     status: [u64; 13],
+    reached: [u64; 7],
     checks: u64,
     files: u64,
     records: u64,
@@ -41,8 +56,8 @@ struct Tally {
     staged: u64,
 }
 
-/// Compares on `count` cases and prints what was reached. True if nothing differs and every
-/// status was given at least once.
+/// Compares on `count` cases and prints what was reached. True if nothing differs and everything
+/// was reached at least once.
 pub fn many(seed: u64, count: u64) -> bool {
     let mut library = Library::new();
     let mut tally = Tally::default();
@@ -66,8 +81,12 @@ pub fn many(seed: u64, count: u64) -> bool {
     if !missing.is_empty() {
         println!("never reached: status {missing:?}. More cases, or another seed?");
     }
+    let unreached: Vec<usize> = (0..7).filter(|&r| tally.reached[r] == 0).collect();
+    for &what in &unreached {
+        println!("never reached: {}. More cases, or another seed?", REACHED[what]);
+    }
     println!("compare: {count} cases, {differences} differences");
-    differences == 0 && missing.is_empty()
+    differences == 0 && missing.is_empty() && unreached.is_empty()
 }
 
 /// One case again, with its bytes.
@@ -88,14 +107,21 @@ fn compare(
     number: u64,
     tally: &mut Tally,
 ) -> Result<(), String> {
-    let dice = Rng::new(!seed, number).u64();
+    let rng = &mut Rng::new(!seed, number);
+    let dice = rng.u64();
     match case {
         Case::Check(q) => {
             let expected =
                 reference::check(q.kind, q.mask, &q.token, &q.self_id, &q.descriptor, &q.policy);
             tally.checks += 1;
             tally.answer(&expected);
-            same(expected, library.check(q, dice))
+            tally.reach(q, &expected);
+            same(expected, library.check(q, dice))?;
+            // And the same question with other spare bytes, now and then.
+            match expected {
+                Ok(answer) if rng.one_in(4) => once_more(library, q, answer, rng, tally),
+                _ => Ok(()),
+            }
         }
         Case::File(file) => {
             let expected = reference::question(file);
@@ -129,6 +155,28 @@ fn compare(
             }
         }
     }
+}
+
+/// The library says of a question with other spare bytes in its entries what it said before. This
+/// takes no second opinion.
+fn once_more(
+    library: &mut Library,
+    q: &Question,
+    before: reference::Answer,
+    rng: &mut Rng,
+    tally: &mut Tally,
+) -> Result<(), String> {
+    let Some(twin) = spare::twin(q, rng) else { return Ok(()) };
+    tally.reached[TWIN] += 1;
+    let said = library.check(&twin, rng.u64())?;
+    if said == Ok(before) {
+        return Ok(());
+    }
+    Err(format!(
+        "library {before:?}, and {said:?} with other spare bytes:\n  descriptor = {}\n  policy = {}",
+        hex::encode(&twin.descriptor),
+        hex::encode(&twin.policy),
+    ))
 }
 
 fn lent(result: Result<Vec<u8>, u32>, room: usize) -> Result<Vec<u8>, u32> {
@@ -192,6 +240,21 @@ impl Tally {
         }
     }
 
+    fn reach(&mut self, q: &Question, expected: &Result<reference::Answer, u32>) {
+        match *expected {
+            Ok(_) => {
+                let seen = spare::seen(q);
+                self.reached[0] += u64::from(seen.descriptor);
+                self.reached[1] += u64::from(seen.effective);
+                self.reached[2] += u64::from(seen.staged);
+                self.reached[3] += u64::from(seen.longest > 60_000);
+            }
+            Err(6) => self.reached[4] += u64::from(spare::refused_by_end_of_sid(q, 6)),
+            Err(9) => self.reached[5] += u64::from(spare::refused_by_end_of_sid(q, 9)),
+            Err(_) => {}
+        }
+    }
+
     fn print(&self, seed: u64, count: u64) {
         println!(
             "seed {seed}, {count} cases: {} checks, {} question files, {} records, {} listings",
@@ -204,5 +267,8 @@ impl Tally {
             "  of the answers: {} allowed, {} granted in part, {} with the staging flag",
             self.allowed, self.partly, self.staged
         );
+        for (times, name) in self.reached.iter().zip(REACHED) {
+            println!("  {times:9}  {name}");
+        }
     }
 }

@@ -15,7 +15,7 @@ pub struct Library {
 }
 
 /// Longer than anything that the cases hold.
-const ROOM: usize = 327_680;
+const ROOM: usize = 655_360;
 /// What the words hold before a call: neither 0 nor 1 nor a mask that is ever granted.
 const STALE: u32 = 0xA5A5_A5A5;
 const STALE_LENGTH: usize = 0xA5A5_A5A5;

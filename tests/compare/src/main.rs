@@ -8,6 +8,7 @@
 mod compare;
 mod fence;
 mod library;
+mod spare;
 mod vectors;
 
 use std::env;

@@ -56,12 +56,13 @@ pub fn sacl_at_front(bytes: &[u8]) -> Option<Acl<'_>> {
 }
 
 /// A list at the front of `bytes`, judged as a DACL is: like a SACL, and an allow or deny entry
-/// is a mask and exactly one SID. Other types are well shaped by their header and size.
+/// is a mask and a SID, whole inside the entry. What the entry has behind the SID is spare. Other
+/// types are well shaped by their header and size.
 pub fn dacl_at_front(bytes: &[u8]) -> Option<Acl<'_>> {
     let list = sacl_at_front(bytes)?;
     for entry in &list.entries {
-        if entry.is_read() && !entry.bytes.get(8..).is_some_and(sid::is_exactly_one) {
-            return None;
+        if entry.is_read() {
+            sid::at_front(entry.bytes.get(8..)?)?;
         }
     }
     Some(list)
@@ -82,9 +83,10 @@ impl<'a> Entry<'a> {
         u32::from_le_bytes([self.bytes[4], self.bytes[5], self.bytes[6], self.bytes[7]])
     }
 
-    /// The identity. Only for a read entry of a well-shaped DACL.
+    /// The identity, without the spare bytes behind it. Only for a read entry of a well-shaped
+    /// DACL.
     pub fn sid(&self) -> &'a [u8] {
-        &self.bytes[8..]
+        sid::at_front(&self.bytes[8..]).expect("a well-shaped DACL has a SID here")
     }
 }
 

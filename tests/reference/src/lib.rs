@@ -1,8 +1,8 @@
 //! The access check once more, in plain Rust.
 //!
-//! Written from document 01 alone and not from the proved library, so that the two can be
-//! compared. It is meant to be read: it copies and allocates freely, and every step stands
-//! where the document has it. For speed look elsewhere.
+//! Written from document 01 alone, with request 101 of document 02, and not from the proved
+//! library, so that the two can be compared. It is meant to be read: it copies and allocates
+//! freely, and every step stands where the document has it. For speed look elsewhere.
 //!
 //! Refusals are the document's numbers as they are, in `Err`.
 

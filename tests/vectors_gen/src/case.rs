@@ -185,6 +185,20 @@ pub fn followed_by(mut bytes: Vec<u8>, more: &[u8]) -> Vec<u8> {
     bytes
 }
 
+/// An allow or deny entry with spare bytes behind its SID.
+pub fn long_allow(mask: u32, sid: &[u8], spare: &[u8]) -> Vec<u8> {
+    make::long_entry(0, 0, mask, sid, spare)
+}
+
+pub fn long_deny(mask: u32, sid: &[u8], spare: &[u8]) -> Vec<u8> {
+    make::long_entry(1, 0, mask, sid, spare)
+}
+
+/// An entry whose SID says that it has so many words, whatever the entry holds.
+pub fn saying(entry: Vec<u8>, words: u8) -> Vec<u8> {
+    patched(entry, 9, &[words])
+}
+
 /// The first `length` bytes.
 pub fn cut(mut bytes: Vec<u8>, length: usize) -> Vec<u8> {
     bytes.truncate(length);

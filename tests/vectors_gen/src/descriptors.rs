@@ -2,7 +2,9 @@
 //! descriptor shows by what it grants.
 
 use crate::case::*;
-use pirasteh_cases::make::{acl, allow, bare_entry, entry, sid, Descriptor};
+use pirasteh_cases::make::{
+    acl, allow, bare_entry, deny, entry, long_entry, sid, Descriptor, Token,
+};
 
 const READ: u32 = 0x8000_0000;
 const GRANTED: u32 = 0x0012_0089;
@@ -31,6 +33,8 @@ pub fn cases() -> Vec<Case> {
     all.extend(identities());
     all.extend(lists());
     all.extend(entries());
+    all.extend(long_entries());
+    all.extend(short_entries());
     all.extend(sacls());
     all.extend(overlaps());
     all
@@ -184,15 +188,20 @@ fn entries() -> Vec<Case> {
         |first: Vec<u8>| Descriptor::owned_by(&w()).dacl(&acl(&[first, allow(READ, &u())])).bytes();
     all.extend([
         bad("entry size 0xFFFC", d_with(42, &[0xFC, 0xFF])),
-        bad("entry size 28 with four spare bytes behind the SID", {
-            two(bare_entry(0, 0, &followed_by(followed_by(vec![1, 0, 0, 0], &u()), &[0; 4])))
-        }),
+        good(
+            "entry size 28 with four spare bytes behind the SID",
+            two(long_allow(1, &u(), &[0; 4])),
+        ),
         good("an entry of the shortest SID, 16 bytes", two(allow(1, &sid(5, &[])))),
         good("an entry of the longest SID, 76 bytes", two(allow(1, &sid(5, &[7; 15])))),
         bad("an entry of a SID of 16 words", two(allow(1, &sid(5, &[7; 16])))),
         bad("an entry with SID revision 0", d_with(48, &[0])),
         bad("an entry with SID revision 2", d_with(48, &[2])),
-        bad("an entry whose SID says one word less", d_with(49, &[1])),
+        given(
+            "an entry whose SID says one word less: it names S-1-5-0, and the last word is spare",
+            d_with(49, &[1]),
+            no(0),
+        ),
         bad("an entry whose SID says one word more", d_with(49, &[3])),
         bad("an allow entry that is a header alone", two(bare_entry(0, 0, &[]))),
         bad("a deny entry that is a header alone", two(bare_entry(1, 0, &[]))),
@@ -203,6 +212,129 @@ fn entries() -> Vec<Case> {
         bad("an entry of type 5 of size 6", patched(two(bare_entry(5, 0, &[0; 4])), 42, &[6])),
     ]);
     all
+}
+
+/// Entries with spare bytes behind their SIDs. These are never read.
+fn long_entries() -> Vec<Case> {
+    let with = |entries: &[Vec<u8>]| Descriptor::owned_by(&w()).dacl(&acl(entries)).bytes();
+    let reading = allow(READ, &u());
+    // In c1's file a descriptor may be 65,516 bytes long; its list begins at 32.
+    let room = 65_516 - 32 - 8;
+    vec![
+        good("four spare bytes in an allow entry", with(&[long_allow(READ, &u(), &[0; 4])])),
+        good("eight spare bytes in an allow entry", with(&[long_allow(READ, &u(), &[0xFF; 8])])),
+        given(
+            "four spare bytes in a deny entry",
+            with(&[long_deny(READ, &u(), &[0; 4]), reading.clone()]),
+            no(0),
+        ),
+        given(
+            "eight spare bytes in a deny entry",
+            with(&[long_deny(1, &u(), &[0xFF; 8]), reading.clone()]),
+            no(0x0012_0088),
+        ),
+        good(
+            "an allow entry with as many spare bytes as c1's question file has room for",
+            with(&[long_allow(READ, &u(), &vec![0xFF; room - 24])]),
+        ),
+        given(
+            "a deny entry with as many, where the entry behind it is found by the size",
+            with(&[long_deny(1, &u(), &vec![0; room - 24 - 24]), reading.clone()]),
+            no(0x0012_0088),
+        ),
+        given(
+            "spare bytes that hold a whole allow entry: it is not taken",
+            with(&[long_allow(READ, &g(), &reading)]),
+            no(0),
+        ),
+        good(
+            "spare bytes that hold a whole deny entry: the next one stands behind them",
+            with(&[long_allow(1, &g(), &deny(READ, &u())), reading.clone()]),
+        ),
+        good(
+            "spare bytes that hold an entry of type 5",
+            with(&[long_allow(READ, &u(), &bare_entry(5, 0, &[]))]),
+        ),
+        good(
+            "spare bytes that hold a list",
+            with(&[long_allow(READ, &u(), &acl(&[deny(READ, &u())])), deny(READ, &u())]),
+        ),
+        given(
+            "the owner stands in the spare bytes of an entry",
+            patched(with(&[long_allow(READ, &g(), &u())]), 4, &[64]),
+            no(0x0002_0000),
+        ),
+        good("spare bytes that hold a SID", with(&[long_deny(READ, &g(), &u()), reading.clone()])),
+        good("the shortest SID with four spare bytes, 20 bytes", {
+            with(&[long_allow(1, &sid(5, &[]), &[0; 4]), reading.clone()])
+        }),
+        good("the longest SID with four spare bytes, 80 bytes", {
+            with(&[long_allow(1, &sid(5, &[7; 15]), &[0; 4]), reading.clone()])
+        }),
+        given(
+            "an entry whose SID says no words: it names S-1-5, and both words are spare",
+            d_with(49, &[0]),
+            no(0),
+        ),
+        ask(
+            "the same entry, where S-1-5 asks",
+            c1().descriptor(d_with(49, &[0])).token(Token::of(&sid(5, &[])).record()),
+            yes(GRANTED),
+        ),
+        good(
+            "an inherit-only entry with spare bytes",
+            with(&[long_entry(1, 0x08, READ, &u(), &[0; 8]), reading.clone()]),
+        ),
+        good("spare bytes in the entry, and a whole entry behind the last", {
+            let list = acl(&[long_allow(READ, &u(), &[0; 8]), deny(READ, &u())]);
+            Descriptor::owned_by(&w()).dacl(&patched(list, 4, &[1])).bytes()
+        }),
+    ]
+}
+
+/// Entries that are not long enough for their SIDs, or of a wrong size though there are spare
+/// bytes.
+fn short_entries() -> Vec<Case> {
+    let with = |entries: &[Vec<u8>]| Descriptor::owned_by(&w()).dacl(&acl(entries)).bytes();
+    let reading = allow(READ, &u());
+    let long = || with(&[long_allow(READ, &u(), &[0; 4])]);
+    vec![
+        // The SID is S-1-5-7 and the four bytes of the next entry's header.
+        bad("an entry that ends four bytes before its SID, which goes on into the next entry", {
+            with(&[saying(allow(1, &sid(5, &[7])), 2), reading.clone()])
+        }),
+        bad("an entry whose SID reaches to the end of the next entry", {
+            with(&[saying(allow(1, &sid(5, &[])), 6), reading.clone()])
+        }),
+        bad("a deny entry whose SID says 15 words, with room for 14", {
+            with(&[saying(deny(1, &sid(5, &[7; 14])), 15), reading.clone()])
+        }),
+        bad("an entry with spare bytes whose SID says one word more than fits", {
+            with(&[saying(long_allow(1, &sid(5, &[7]), &[0; 8]), 4), reading.clone()])
+        }),
+        bad("an inherit-only entry whose SID goes on into the next entry", {
+            with(&[saying(entry(0, 0x08, 1, &sid(5, &[7])), 2), reading.clone()])
+        }),
+        bad("a last entry whose SID goes on into the spare bytes of the list", {
+            followed_by(patched(d_with(34, &[36]), 49, &[3]), &[0; 4])
+        }),
+        bad("a last entry whose SID goes on behind the list", {
+            followed_by(d_with(49, &[3]), &[0; 4])
+        }),
+        bad("entry size 26 with two spare bytes", patched(long(), 42, &[26])),
+        bad("entry size 32 with four spare bytes, and four more behind the list", {
+            followed_by(patched(long(), 42, &[32]), &[0; 4])
+        }),
+        bad("count 2, where the second entry is the spare bytes of the first", {
+            let list = acl(&[long_allow(1, &u(), &reading)]);
+            Descriptor::owned_by(&w()).dacl(&patched(list, 4, &[2])).bytes()
+        }),
+        given(
+            "an entry of type 5 with room for a SID that says more: its body is not judged",
+            with(&[saying(entry(5, 0, 1, &u()), 15), reading.clone()]),
+            refused(8),
+        ),
+    ]
 }
 
 fn sacls() -> Vec<Case> {
@@ -225,6 +357,14 @@ fn sacls() -> Vec<Case> {
             with(&acl(&[bare_entry(0, 0, &[])])),
         ),
         good("bodies are not judged: a SID of revision 9", with(&acl(&[entry(2, 0, 1, &[9; 12])]))),
+        good(
+            "bodies are not judged: allow and deny entries too short for any SID",
+            with(&acl(&[bare_entry(0, 0, &[0; 8]), bare_entry(1, 0, &[0; 4])])),
+        ),
+        good(
+            "bodies are not judged: an entry longer than any SID, one shorter than its own",
+            with(&acl(&[bare_entry(0, 0, &[0; 96]), saying(deny(1, &u()), 15)])),
+        ),
         bad("SACL size 7", patched(with(&some), 34, &[7])),
         bad("SACL size past the end", patched(with(&some), 34, &[0xFF])),
         bad("SACL entry size 0", patched(with(&some), 42, &[0])),
@@ -250,4 +390,18 @@ fn overlaps() -> Vec<Case> {
         ),
         good("the SACL is the DACL", patched(d_with(2, &[0x14]), 12, &[32])),
     ]
+}
+
+#[cfg(test)]
+mod tests {
+    use super::*;
+
+    #[test]
+    fn the_longest_entries_fill_a_question_file() {
+        let longest = |case: &Case| match &case.body {
+            Body::Ask { file, .. } => file.len() == 65_536,
+            _ => false,
+        };
+        assert_eq!(long_entries().iter().filter(|case| longest(case)).count(), 2);
+    }
 }

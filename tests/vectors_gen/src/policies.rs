@@ -23,6 +23,7 @@ pub fn cases() -> Vec<Case> {
     let mut all = shapes();
     all.extend(sections());
     all.extend(rules());
+    all.extend(long_entries());
     all
 }
 
@@ -202,6 +203,89 @@ fn rules() -> Vec<Case> {
             on_list(confined(), 3, &[allow(3, &u()), allow(3, &package())])
                 .policy(policy(&[Rule::of(&l(&[allow(3, &package())]))])),
             no(0),
+        ),
+    ]
+}
+
+/// Spare bytes behind the SIDs of entries, and entries that are not long enough for theirs.
+fn long_entries() -> Vec<Case> {
+    let l = |entries: &[Vec<u8>]| acl(entries);
+    let asks =
+        |mask: u32, rules: &[Rule]| on_list(tu(), mask, &[allow(7, &u())]).policy(policy(rules));
+    let all = || Rule::of(&l(&[allow(7, &u())]));
+    // The SID is S-1-5-7 and the four bytes of the next entry's header.
+    let short = || l(&[saying(allow(1, &w()), 2), allow(READ, &u())]);
+    let long = || l(&[long_allow(READ, &u(), &[0; 4])]);
+    let odd = l(&[saying(make::entry(5, 0, 1, &u()), 15), allow(READ, &u())]);
+    let own = owner_rights();
+    let owns = on(tu(), 0x6_0000, Descriptor::owned_by(&u()).dacl(&l(&[])));
+    vec![
+        good("spare bytes in an entry of an effective DACL", policy(&[Rule::of(&long())])),
+        good("spare bytes in an entry of a staged DACL", policy(&[reading().staged(&long())])),
+        ask(
+            "an entry with spare bytes narrows as it does without",
+            asks(7, &[Rule::of(&l(&[long_deny(4, &u(), &[0xFF; 8]), allow(7, &u())]))]),
+            no(3),
+        ),
+        ask(
+            "a rule whose spare bytes hold a whole allow entry, which is not taken",
+            asks(7, &[Rule::of(&l(&[long_allow(3, &u(), &allow(7, &u()))]))]),
+            no(3),
+        ),
+        ask(
+            "a rule with an entry of 4,000 bytes, where the entry behind it is found by the size",
+            asks(7, &[Rule::of(&l(&[long_deny(4, &g(), &[0; 3976]), allow(5, &u())]))]),
+            no(5),
+        ),
+        ask(
+            "a staged list that differs by spare bytes alone raises no flag",
+            asks(7, &[all().staged(&l(&[long_allow(7, &u(), &[0xFF; 8])]))]),
+            yes(7),
+        ),
+        ask(
+            "a staged list that would differ by an entry in its spare bytes raises no flag",
+            asks(7, &[all().staged(&l(&[long_allow(0, &g(), &deny(7, &u())), allow(7, &u())]))]),
+            yes(7),
+        ),
+        ask(
+            "a staged list that differs by an entry with spare bytes raises the flag",
+            asks(7, &[all().staged(&l(&[long_deny(4, &u(), &[0; 4]), allow(7, &u())]))]),
+            yes_staged(7),
+        ),
+        ask(
+            "S-1-3-4 in the spare bytes of a rule takes nothing from the rule's result",
+            owns.clone().policy(policy(&[Rule::of(&l(&[
+                long_allow(1, &g(), &allow(0, &own)),
+                allow(1, &g()),
+            ]))])),
+            yes(0x6_0000),
+        ),
+        ask(
+            "S-1-3-4 in an entry of a rule that has spare bytes takes the two rights",
+            owns.policy(policy(&[Rule::of(&l(&[long_allow(0x2_0000, &own, &[0; 4])]))])),
+            no(0x2_0000),
+        ),
+        bad("an effective DACL: a SID goes on into the next entry", policy(&[Rule::of(&short())])),
+        bad(
+            "a staged DACL: a SID goes on into the next entry",
+            policy(&[reading().staged(&short())]),
+        ),
+        bad(
+            "an effective DACL: an entry of size 26 with two spare bytes",
+            policy(&[Rule::of(&patched(long(), 10, &[26]))]),
+        ),
+        bad(
+            "a staged DACL: an entry of size 32 where 28 fits",
+            policy(&[reading().staged(&patched(long(), 10, &[32]))]),
+        ),
+        given(
+            "an effective DACL with an entry of type 5, whose body is not judged",
+            policy(&[Rule::of(&odd)]),
+            refused(10),
+        ),
+        good(
+            "SACLs of a rule with allow entries shorter than their SIDs",
+            policy(&[Rule { effective_sacl: short(), staged_sacl: short(), ..reading() }]),
         ),
     ]
 }

@@ -1,7 +1,8 @@
--- `listed` ends: it stands at what the reader shows at its place, and the measure is how many bytes of the list are left.
+-- `listed` ends: it stands at what the reader shows at its place, and the measure is how many bytes of what is held are left.
 -- Assumes nothing.
-use Prim.Native.Nat.{_-_}
+use Prim.Native.Nat.{ℕ, _-_}
 use mathlib.Core.Path.{_≡_, sym, ap, _∙_}
+use mathlib.Core.List.{List}
 use native.Mathlib.Omega.{arith}
 use lib.ListN.{length}
 use borrow.Author.Needs.{needs}
@@ -11,10 +12,10 @@ use Rattle.entries.proofs.listed.Statement.{statement}
 use Rattle.entries.proofs.listed.Tie as tie
 
 abbrev Inv-loop : tie.InvT-loop
-Inv-loop name list at₀ step₀ at step = step ≡ stepAt list at
+Inv-loop name list own at₀ step₀ at step = step ≡ stepAt own at
 
 abbrev μ-loop : tie.MeasureT-loop
-μ-loop name list at₀ step₀ at step = length list - at
+μ-loop name list own at₀ step₀ at step = length own - at
 
 print-requires : tie.Need-print-requires Inv-loop μ-loop
 print-requires c κs = search needs
@@ -25,11 +26,14 @@ slice-aggregate-print c = search needs
 print-requires-2 : tie.Need-print-requires-2 Inv-loop μ-loop
 print-requires-2 c κs = search needs
 
+held-requires : tie.Need-held-requires Inv-loop μ-loop
+held-requires c κs = search needs
+
 first-requires : tie.Need-first-requires Inv-loop μ-loop
 first-requires c κs = search needs
 
 loop-holds : tie.Need-loop-holds Inv-loop μ-loop
-loop-holds c = search needs
+loop-holds c = c .first .ensures ∙ ap (λ (l : List ℕ). stepAt l 8) (sym (c .before .held .ensures))
 
 enum-known-step : tie.Need-enum-known-step Inv-loop μ-loop
 enum-known-step c = search needs
@@ -48,7 +52,7 @@ after-requires c κs = search needs
 
 loop-less : tie.Need-loop-less Inv-loop μ-loop
 loop-less c =
-    let l = c .before .before .before .before .before .before .before .before .before .before .before .before .args .list .now in
+    let l = c .before .before .before .before .before .before .before .held .result .now in
     let i = c .before .before .before .before .before .loop in
     let q = sym (i .inv) ∙ c .before .before .before .step .given .1 in
     let b = step-inside l (i .at) _ q in
@@ -56,7 +60,7 @@ loop-less c =
 
 loop-again : tie.Need-loop-again Inv-loop μ-loop
 loop-again c =
-    let l = c .before .before .before .before .before .before .before .before .before .before .before .before .args .list .now in
+    let l = c .before .before .before .before .before .before .before .held .result .now in
     let i = c .before .before .before .before .before .loop in
     let q = sym (i .inv) ∙ c .before .before .before .step .given .1 in
     c .after .ensures ∙ ap (stepAt l) (ap (placeAfter (i .at)) q)
@@ -70,6 +74,7 @@ listed-spec =
     print-requires
     slice-aggregate-print
     print-requires-2
+    held-requires
     first-requires
     loop-holds
     enum-known-step

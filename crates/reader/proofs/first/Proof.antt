@@ -37,7 +37,7 @@ use denote.Triple.Table.{entered, cited}
 use denote.Triple.Walked.{says, Stays, stay-none-slice, walkOf, goes-none-slice, Walks, ends-at, walked, walk-meets}
 use denote.Exit.{yes}
 use denote.Triple.Clauses.{ensured, lasts}
-use Rattle.reader.specs.Reading.{stepAt}
+use Rattle.reader.specs.Reading.{held, stepAt}
 use Rattle.reader.specs.declared.Entries.{Entries}
 use Rattle.reader.specs.declared.Step.{Step}
 use Rattle.reader.proofs.Entries as T
@@ -78,7 +78,7 @@ module _ {M : Type 1} (𝓤 : URA M) (H : Heap 𝓤) (A : Atoms 𝓤) (W : Given
   v = sliceVal (s .ptr) (length (s .now))
 
   abbrev found : Step
-  found = stepAt (now s) 8
+  found = stepAt (held (now s)) 8
 
   -- the struct's type as a local of a body has it
   abbrev αᵉ : NamedLft
@@ -100,8 +100,8 @@ module _ {M : Type 1} (𝓤 : URA M) (H : Heap 𝓤) (A : Atoms 𝓤) (W : Given
       move ! (1 ∷ []) $ fsplit ! $ use1 W (‵ Own ⊛ ‵ Own) (shr-slice-copy 𝓤 H A W (named 0) κ u8 .twice s (v ∷ [])) $ split ! $
       move ! (0 ∷ 2 ∷ []) $ fjoin ! $ move ! (2 ∷ 0 ∷ []) $ use2 W (raw (Opened 𝓤 H A mem run .pre to-opened)) (qed W ((‵ (flft κ q) ⊛ ‵ ftrue) ∷ ‵ (owns (ShrSlice (named 0) κ u8 ∷ []) (s, tt) (v ∷ [], tt)) ∷ []) ∵ join ! $ frame ! $ done !) $ frame ! $ done !
 
-  opened-said : (r : Entries) → ent 𝓤 (ensured 𝓤 H A opened.ended (opened.clauses 𝓤 H A mem run) (κ, tt) (s, tt) tt r) (fact 𝓤 ((r .list ≡ s) × (r .at ≡ 8)))
-  opened-said r = exE 𝓤 _ (λ ws. snd∗ 𝓤 (sem 𝓤 H A (lasts opened.ended (κ, tt) (s, tt) ws)) (fact 𝓤 ((r .list ≡ s) × (r .at ≡ 8))))
+  opened-said : (r : Entries) → ent 𝓤 (ensured 𝓤 H A opened.ended (opened.clauses 𝓤 H A mem run) (κ, tt) (s, tt) tt r) (fact 𝓤 ((now (r .list) ≡ held (now s)) × (r .at ≡ 8)))
+  opened-said r = exE 𝓤 _ (λ ws. snd∗ 𝓤 (sem 𝓤 H A (lasts opened.ended (κ, tt) (s, tt) ws)) (fact 𝓤 ((now (r .list) ≡ held (now s)) × (r .at ≡ 8))))
 
   -- the call of `current`, at the struct r with the machine value u
   abbrev to-current : Entries → Val → Current 𝓤 H A mem run .Ghost
@@ -127,7 +127,7 @@ module _ {M : Type 1} (𝓤 : URA M) (H : Heap 𝓤) (A : Atoms 𝓤) (W : Given
         move ! (6 ∷ []) $ use1 W (raw (Opened 𝓤 H A mem run .pre to-opened) ⊛ ‵ Own) goes-opened $ split ! $
         calls-at ! fm (Opened 𝓤 H A mem run) known-opened to-opened (and-then ! (load ! (from ! (stop !)) (look ! 4 refl)) (no-more !)) (λ u.
         use1 W (later (some (λ (r : Entries). ((‵ (flft κ q) ⊛ ‵ ftrue) ⊛ ‵ (B (κ, tt) .own r (u ∷ []))) ⊛ raw (ensured 𝓤 H A opened.ended (opened.clauses 𝓤 H A mem run) (κ, tt) (s, tt) tt r)))) (id⊢ 𝓤 _) $ await ! tt $ pick ! (λ r.
-        split ! $ move ! (1 ∷ []) $ use1 W (raw (fact 𝓤 ((r .list ≡ s) × (r .at ≡ 8)))) (opened-said r) $ heard ! ((r .list ≡ s) × (r .at ≡ 8)) (λ e. split ! $ move ! (1 ∷ []) $
+        split ! $ move ! (1 ∷ []) $ use1 W (raw (fact 𝓤 ((now (r .list) ≡ held (now s)) × (r .at ≡ 8)))) (opened-said r) $ heard ! ((now (r .list) ≡ held (now s)) × (r .at ≡ 8)) (λ e. split ! $ move ! (1 ∷ []) $
         -- [what the struct owns; the token; what s owns; room for _2; …; _1; …; room for _0; …]
         peeks ! (B (κ, tt)) (Is (B (κ, tt))) (shows 𝓤 H A (B (κ, tt))) r (u ∷ []) (λ is.
         land ! (from ! (stop !)) (init ! 3 refl (LL.lawful (T.the-type αᵉ) (T′.the-laws αᵉ) 𝓤 H A W .typed r _ is .0)) $
@@ -139,7 +139,7 @@ module _ {M : Type 1} (𝓤 : URA M) (H : Heap 𝓤) (A : Atoms 𝓤) (W : Given
         peeks ! S.the-row (Is S.the-row) (shows 𝓤 H A S.the-row) t (u′ ∷ []) (λ is′.
         land ! (from ! (stop !)) (init ! 7 refl (EL.lawful S.the-type S′.the-laws 𝓤 H A W tt .typed t _ is′ .0)) $
         returns ! (look ! 7 refl) $ forget ! 3 refl $ forget ! 5 refl $ forget ! 7 refl $ move ! (7 ∷ 8 ∷ []) $ free1 ! $ move ! (5 ∷ 6 ∷ []) $ free1 ! $ move ! (3 ∷ 4 ∷ []) $ free1 ! $ free0 ! $
-        by ! (exits t u′ (e′ ∙ (ap (λ (x : RefT (List ℕ)). stepAt (now x) (r .at)) (e .0) ∙ ap (stepAt (now s)) (e .1)))))))))))))))
+        by ! (exits t u′ (e′ ∙ (ap (λ (x : List ℕ). stepAt x (r .at)) (e .0) ∙ ap (stepAt (held (now s))) (e .1)))))))))))))))
 
 module _ {M : Type 1} (𝓤 : URA M) (H : Heap 𝓤) (A : Atoms 𝓤) (W : Given 𝓤 H A) (mem : Memory → SProp 𝓤) (run : Routine → Fun 𝓤) where
   first-walks : (C : Calls 𝓤 H) (Λ : Loops 𝓤 H) → FmC 𝓤 H (W .laws) C → Triple 𝓤 (C #reader·opened) (Opened 𝓤 H A mem run) → Triple 𝓤 (C #reader·current) (Current 𝓤 H A mem run)

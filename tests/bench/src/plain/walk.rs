@@ -123,10 +123,11 @@ pub fn dacl(setting: &Setting, confine: bool, bytes: &[u8]) -> Option<(usize, Wa
             walked.other_type = true;
             continue;
         }
-        if size < 16 || entry[8] != 1 || entry[9] > 15 || size != 16 + 4 * usize::from(entry[9]) {
+        if size < 16 || entry[8] != 1 || entry[9] > 15 {
             return None;
         }
-        let sid = &entry[8..];
+        // What the entry has behind its SID is spare.
+        let sid = entry.get(8..16 + 4 * usize::from(entry[9]))?;
         if sid.len() == 12 && sid == OWNER_RIGHTS {
             walked.names_owner = true;
         }

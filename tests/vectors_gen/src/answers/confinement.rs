@@ -129,6 +129,15 @@ pub fn cases() -> Vec<Case> {
             no(0),
         ),
         ask(
+            "an entry with spare bytes that names the package",
+            on_list(
+                token(),
+                3,
+                &[long_allow(3, &u(), &deny(3, &one)), long_allow(1, &package(), &allow(2, &one))],
+            ),
+            no(1),
+        ),
+        ask(
             "an exempt token is not confined",
             on_list(token().exempt().privileges(SECURITY), 0x0100_0001, &[allow(1, &u())]),
             yes(0x0100_0001),

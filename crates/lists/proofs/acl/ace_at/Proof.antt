@@ -1,4 +1,4 @@
--- `ace_at` meets its contract: where an allow or deny entry stands, its fields are those of the definition, and its SID lies inside.
+-- `ace_at` meets its contract: where an allow or deny entry stands, its fields are those of the definition, and its SID lies inside it.
 -- Assumes nothing.
 use Prim.Native.Nat.{_+_, _<_}
 use mathlib.Core.Bool.{true}
@@ -7,7 +7,7 @@ use native.Mathlib.Omega.{arith}
 use borrow.Author.Needs.{needs}
 use Rattle.base.specs.Bytes.{byteAt}
 use Rattle.lists.specs.Acl.{entryEnd}
-use Rattle.lists.proofs.EntrySteps.{entry-end-bounds, entry-end-sid, ace-at-none, ace-at-foreign, ace-at-made}
+use Rattle.lists.proofs.EntrySteps.{entry-end-bounds, entry-end-sid, entry-end-fits, ace-at-none, ace-at-foreign, ace-at-made}
 use Rattle.lists.proofs.SidLaws.{sid-end-bounds}
 use Rattle.lists.proofs.acl.ace_at.Statement.{statement}
 use Rattle.lists.proofs.acl.ace_at.Tie as tie
@@ -88,7 +88,8 @@ returns-3 c =
     let n : (entryEnd true (a .l .now) (a .at) ≡ 0 → ⊥) = λ q. c .before .before .before .before .before .if1 .left (e ∙ q) in
     let k : byteAt (a .l .now) (a .at) < 2 = omega arith in
     let s = sid-end-bounds (a .l .now) (a .at + 8) (entry-end-sid (a .l .now) (a .at) k n) in
-    (ace-at-made (a .l .now) (a .at) _ _ _ (c .before .u32-at .ensures) t e k n, (omega (arith, s .0), (omega arith, omega arith)))
+    let f = entry-end-fits (a .l .now) (a .at) k n in
+    (ace-at-made (a .l .now) (a .at) _ _ _ (c .before .u32-at .ensures) t e k n, (omega (arith, s .0), (omega (arith, f), omega arith)))
 
 pub ace-at-spec : {M : Type 1} → statement M
 ace-at-spec =

@@ -1,9 +1,9 @@
--- `holds` meets its contract: the SID after the mask ends where the entry does.
+-- `holds` meets its contract: the SID after the mask ends where the entry does, or before.
 -- Assumes nothing.
 use Prim.Native.Nat.{ℕ}
 use mathlib.Core.Path.{sym, ap, _∙_}
 use native.Mathlib.Omega.{arith}
-use lib.Dec.{eqb}
+use lib.Dec.{leb}
 use borrow.Author.Needs.{needs}
 use Rattle.lists.proofs.EntrySteps.{holds-none, holds-some}
 use Rattle.lists.proofs.acl.holds.Statement.{statement}
@@ -24,7 +24,7 @@ returns-2 : tie.Need-returns-2
 returns-2 c =
     let a = c .before .before .before .args in
     let q = c .before .sid-end .ensures .0 in
-    ap (λ (x : ℕ). eqb x (a .e)) q ∙ sym (holds-some (a .l .now) (a .at) (a .e) (λ z. c .if1 .left (q ∙ z)))
+    ap (λ (x : ℕ). leb x (a .e)) q ∙ sym (holds-some (a .l .now) (a .at) (a .e) (λ z. c .if1 .left (q ∙ z)))
 
 pub holds-spec : {M : Type 1} → statement M
 holds-spec = tie.close (tie.spec add-sid-end sid-end-requires returns returns-2)
