@@ -1,5 +1,5 @@
--- Request 101's `same-reading` is not empty: two questions whose lists differ in spare bytes meet its conditions by computation. alike-reading.
--- Assumes nothing.
+-- Request 101's `same-reading` is not empty: two questions whose lists differ in spare bytes meet its conditions by computation.
+-- alike-reading. Assumes nothing.
 use mathlib.Core.Path.{refl}
 use mathlib.Core.List.{[], _∷_}
 use Rattle.access.specs.Status.{Question}

@@ -1,7 +1,7 @@
 -- Laws of lists and their entries, for callers: what an accepted list's entries are.
--- In order: the bytes of a list, by its place (acl-of-part); entries one by one (ace-found, entries-stop, entries-more, entries-short); what holds of
--- every entry (All, Sound, entries-sound, Narrow, entries-narrow); a list of plain entries (Plainly, plain-of-scan, plain-more, plain-cons), all
--- of which are read (plain-reads-all). The tests one by one are in AclSteps. Assumes nothing.
+-- In order: the bytes of a list, by its place (acl-of-part); entries one by one (ace-found, entries-stop, entries-more, entries-short); what
+-- holds of every entry (All, Sound, entries-sound, Narrow, entries-narrow); a list of plain entries (Plainly, plain-of-scan, plain-more,
+-- plain-cons), all of which are read (plain-reads-all). The tests one by one are in AclSteps. Assumes nothing.
 use Prim.Native.Nat.{ℕ, zero, suc, _+_, _-_, _^_, _<_, _≤_}
 use mathlib.Core.Path.{_≡_, refl, sym, ap, _∙_}
 use mathlib.Core.List.{List, [], _∷_}

@@ -5,6 +5,7 @@ pub mod AclSteps
 pub mod EntrySteps
 pub mod AclLaws
 pub mod SpareLaws
+pub mod AlikeLaws
 pub mod DescriptorSteps
 pub mod PieceLaws
 pub mod DescriptorLaws

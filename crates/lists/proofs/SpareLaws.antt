@@ -1,35 +1,30 @@
--- Spare bytes (request 101). In order: which allow and deny entries are well shaped, where the next one begins, and where they lie
--- (long-enough, ace-next, ace-bounds, ace-past); what the entries of an accepted list say (entries-said).
--- An entry is what its bytes up to the end of its SID say, and whatever stands behind them is not read: numbers (u16-alike, u32-alike), bytes
--- (part-alike), an identity (sid-end-alike), an entry (ace-alike, entry-alike), and all entries of a list (spare-unread).
--- Assumes nothing.
-use Prim.Native.Nat.{ℕ, zero, suc, _+_, _-_, _*_, _%_, _<_, _≤_}
-use mathlib.Core.Path.{_≡_, refl, sym, ap, ap₂, _∙_}
-use mathlib.Core.List.{List, [], _∷_}
+-- Entries with spare bytes or without (request 101): which allow and deny entries are well shaped (long-enough), the heading of one
+-- (entry-head), where the next begins and where it lies (ace-next, ace-bounds, ace-past), and what the entries of an accepted list say
+-- (entries-said).
+-- Not here: that nothing else is read, AlikeLaws. Assumes nothing.
+use Prim.Native.Nat.{ℕ, zero, suc, _+_, _<_, _≤_}
+use mathlib.Core.Path.{_≡_, refl, ap, ap₂, _∙_}
+use mathlib.Core.List.{List, _∷_}
 use mathlib.Core.Bool.{true}
 use mathlib.Core.Logic.{_↔_}
 use native.Mathlib.Omega.{arith}
 use lib.ListN.{length}
-use lib.Seq.{ext-getD}
-use Rattle.base.specs.Bytes.{byteAt, u16At, u32At, part}
-use Rattle.base.proofs.BytesLaws.{length-part}
-use Rattle.base.proofs.WordsLaws.{u16-at-in, u32-at-in}
+use Rattle.base.specs.Bytes.{byteAt, u16At}
 use Rattle.lists.specs.Sid.{sidEnd}
-use Rattle.lists.specs.Acl.{headEnd, entryEnd, shaped, foreign, scanOf, Entry, aceAt, entryOf, entriesAt, entriesOf}
-use Rattle.lists.specs.Spare.{LongEnough, saidAt, Agree, AgreeAll, SameButSpare}
+use Rattle.lists.specs.Acl.{headEnd, entryEnd, scanOf, Entry, aceAt, entryOf, entriesAt, entriesOf}
+use Rattle.lists.specs.Spare.{LongEnough, saidAt}
 use Rattle.lists.specs.declared.acl.Ace.{Ace}
 use Rattle.lists.specs.declared.acl.Scan.the-variants.{Plain}
-use Rattle.lists.proofs.PartLaws.{byte-of-part}
-use Rattle.lists.proofs.SidLaws.{SidAt, sid-at, sid-end-whole, sid-end-bounds}
+use Rattle.lists.proofs.SidLaws.{sid-end-bounds}
 use Rattle.lists.proofs.AclSteps.{HeadAt, head-at, head-end-short, head-end-whole}
 use Rattle.lists.proofs.EntrySteps.{entry-end-none, entry-end-is, entry-end-bounds, entry-end-whole, entry-end-sid, entry-end-fits}
 use Rattle.lists.proofs.EntrySteps.{found, ace-at-none, ace-at-some}
-use Rattle.lists.proofs.AclLaws.{ace-found, entries-more, Plainly, plain-of-scan, scan-of-plain, plain-more, plain-cons}
+use Rattle.lists.proofs.AclLaws.{ace-found, entries-more, Plainly, plain-of-scan, plain-more}
 
 -- ---- which entries are well shaped, and where the next one begins
 
 -- the heading of an entry that is well shaped
-entry-head : (l : List ℕ) (at : ℕ) → (entryEnd true l at ≡ 0 → ⊥) → HeadAt l at
+pub entry-head : (l : List ℕ) (at : ℕ) → (entryEnd true l at ≡ 0 → ⊥) → HeadAt l at
 entry-head l at h = head-at l at (λ z. h (entry-end-is true l at h ∙ z))
 
 long-of-shaped : (l : List ℕ) (at : ℕ) → byteAt l at < 2 → (entryEnd true l at ≡ 0 → ⊥) → LongEnough l at
@@ -87,7 +82,8 @@ ace-past l at h =
 -- ---- what the entries of an accepted list say
 
 -- an entry says its type, flags, mask and SID, whatever its size
-entry-said : (l : List ℕ) (n at : ℕ) → (aceAt l at .next ≡ 0 → ⊥) → entryOf l (aceAt l at) ∷ saidAt l n (aceAt l at .next) ≡ saidAt l (suc n) at
+entry-said : (l : List ℕ) (n at : ℕ) → (aceAt l at .next ≡ 0 → ⊥) →
+    entryOf l (aceAt l at) ∷ saidAt l n (aceAt l at .next) ≡ saidAt l (suc n) at
 unfolding saidAt
 entry-said l n at h =
     let f = ace-found l at h in
@@ -108,113 +104,3 @@ plain-said l (suc n) at p =
 pub entries-said : (l : List ℕ) → scanOf true l ≡ Plain → entriesOf l ≡ saidAt l (u16At l 4) 8
 unfolding entriesOf
 entries-said l p = plain-said l (u16At l 4) 8 (plain-of-scan l p)
-
--- ---- an entry is what its bytes up to the end of its SID say
-
-module _ (l m : List ℕ) (at : ℕ) where
-  u16-alike : Agree l m at (at + 2) → at + 2 ≤ length l → at + 2 ≤ length m → u16At m at ≡ u16At l at
-  u16-alike g h k =
-      let p : u16At m at ≡ byteAt m at + 256 * byteAt m (at + 1) = u16-at-in m at k in
-      let q : u16At l at ≡ byteAt l at + 256 * byteAt l (at + 1) = u16-at-in l at h in
-      let g0 : byteAt m at ≡ byteAt l at = g at (omega arith) (omega arith) in
-      let g1 : byteAt m (at + 1) ≡ byteAt l (at + 1) = g (at + 1) (omega arith) (omega arith) in
-      omega arith
-
-  u32-alike : Agree l m at (at + 4) → at + 4 ≤ length l → at + 4 ≤ length m → u32At m at ≡ u32At l at
-  u32-alike g h k =
-      let g0 : byteAt m at ≡ byteAt l at = g at (omega arith) (omega arith) in
-      let g1 : byteAt m (at + 1) ≡ byteAt l (at + 1) = g (at + 1) (omega arith) (omega arith) in
-      let g2 : byteAt m (at + 2) ≡ byteAt l (at + 2) = g (at + 2) (omega arith) (omega arith) in
-      let g3 : byteAt m (at + 3) ≡ byteAt l (at + 3) = g (at + 3) (omega arith) (omega arith) in
-      omega (arith, u32-at-in m at k, u32-at-in l at h)
-
-  sid-end-alike : (sidEnd l at ≡ 0 → ⊥) → Agree l m at (at + 2) → sidEnd l at ≤ length m → sidEnd m at ≡ sidEnd l at
-  sid-end-alike h g k =
-      let s : SidAt l at = sid-at l at h in
-      let g0 : byteAt m at ≡ byteAt l at = g at (omega arith) (omega arith) in
-      let g1 : byteAt m (at + 1) ≡ byteAt l (at + 1) = g (at + 1) (omega arith) (omega arith) in
-      let w : sidEnd m at ≡ at + 8 + 4 * byteAt m (at + 1) = sid-end-whole m at (g0 ∙ s .one) (omega arith) (omega arith) in
-      omega arith
-
-part-alike : (l m : List ℕ) (a e : ℕ) → a ≤ e → e ≤ length l → e ≤ length m → Agree l m a e → part m a e ≡ part l a e
-part-alike l m a e h p q g =
-    let n : length (part m a e) ≡ e - a = length-part m a e h q in
-    ext-getD 0 (part m a e) (part l a e) (n ∙ sym (length-part l a e h p))
-    (λ i k. byte-of-part m a e i (omega arith) ∙ g (a + i) (omega arith) (omega arith) ∙ sym (byte-of-part l a e i (omega arith)))
-
--- an entry of a list, and another list with the same bytes there and room for the entry
-module _ (l m : List ℕ) (at : ℕ) (h : aceAt l at .next ≡ 0 → ⊥) (g : Agree l m at (aceAt l at .to)) (k : aceAt l at .next ≤ length m) where
-  pub ace-alike : aceAt m at ≡ aceAt l at
-  ace-alike =
-      let a : AceLies l at = ace-bounds l at h in
-      let f = ace-found l at h in
-      let i : aceAt l at ≡ found l at = ace-at-some l at (f .0) (f .1) in
-      let t : aceAt l at .to ≡ sidEnd l (at + 8) = ap (λ (x : Ace). x .to) i in
-      let o : aceAt l at .next ≡ entryEnd true l at = ap (λ (x : Ace). x .next) i in
-      let b : entryEnd true l at ≡ headEnd l at = entry-end-is true l at (f .1) in
-      let c : byteAt l at < 2 = f .0 in
-      let d : HeadAt l at = entry-head l at (f .1) in
-      let g0 : byteAt m at ≡ byteAt l at = g at (omega arith) (omega arith) in
-      let g1 : byteAt m (at + 1) ≡ byteAt l (at + 1) = g (at + 1) (omega arith) (omega arith) in
-      let u : u16At m (at + 2) ≡ u16At l (at + 2) =
-      u16-alike l m (at + 2) (λ i x y. g i (omega arith) (omega arith)) (omega arith) (omega arith) in
-      let w : u32At m (at + 4) ≡ u32At l (at + 4) =
-      u32-alike l m (at + 4) (λ i x y. g i (omega arith) (omega arith)) (omega arith) (omega arith) in
-      let s : sidEnd m (at + 8) ≡ sidEnd l (at + 8) =
-      sid-end-alike l m (at + 8) (entry-end-sid l at (f .0) (f .1)) (λ i x y. g i (omega arith) (omega arith)) (omega arith) in
-      let n : headEnd m at ≡ at + u16At m (at + 2) = head-end-whole m at (ap (λ (x : ℕ). x % 4) u ∙ d .four) (omega arith) (omega arith) in
-      let e : entryEnd true m at ≡ headEnd m at = entry-end-whole m at (omega arith) (λ z. omega arith) (omega arith) in
-      let q : entryEnd true m at ≡ entryEnd true l at = omega arith in
-      let r : found m at ≡ found l at = λ i. record {
-        kind = g0 i;
-        flags = g1 i;
-        mask = record { 0 = w i };
-        from = at + 8;
-        to = s i;
-        next = q i;
-      } in
-      ace-at-some m at (omega arith) (λ z. f .1 (sym q ∙ z)) ∙ r ∙ sym i
-
-  pub entry-alike : entryOf m (aceAt l at) ≡ entryOf l (aceAt l at)
-  entry-alike =
-      let a : AceLies l at = ace-bounds l at h in
-      let f = ace-found l at h in
-      let o : aceAt l at .from ≡ at + 8 = ap (λ (x : Ace). x .from) (ace-at-some l at (f .0) (f .1)) in
-      let s : part m (aceAt l at .from) (aceAt l at .to) ≡ part l (aceAt l at .from) (aceAt l at .to) =
-      part-alike l m (aceAt l at .from) (aceAt l at .to) (omega arith) (omega arith) (omega arith) (λ i x y. g i (omega arith) y) in
-      ap (λ (w : List ℕ). record { kind = aceAt l at .kind; flags = aceAt l at .flags; mask = aceAt l at .mask .0; sid = w }) s
-
--- ---- all entries
-
--- what holds of the entries of two lists that agree in them
-record Alike (l m : List ℕ) (n at : ℕ) : Type 0 where
-  plain : Plainly m n at
-  entries : entriesAt m n at ≡ entriesAt l n at
-
-entries-alike : (l m : List ℕ) → length l ≡ length m → (n at : ℕ) → Plainly l n at → AgreeAll l m n at → Alike l m n at
-unfolding shaped foreign entriesAt
-entries-alike l m e zero at p g = record { plain = record { shape = refl; own = refl }; entries = refl }
-entries-alike l m e (suc n) at p g =
-    let o = plain-more l n at p in
-    let b : aceAt l at .next ≤ length l = ace-bounds l at (o .0) .inside in
-    let a : aceAt m at ≡ aceAt l at = ace-alike l m at (o .0) (g .0) (omega arith) in
-    let x : aceAt m at .next ≡ aceAt l at .next = ap (λ (y : Ace). y .next) a in
-    let hm : (aceAt m at .next ≡ 0 → ⊥) = λ z. o .0 (sym x ∙ z) in
-    let r = entries-alike l m e n (aceAt l at .next) (o .1) (g .1) in
-    record {
-      plain = plain-cons m n at hm (rw x (r .plain));
-      entries =
-          entries-more m n at hm
-          ∙ ap₂
-          (λ (y : Entry) (z : List Entry). y ∷ z)
-          (ap (entryOf m) a ∙ entry-alike l m at (o .0) (g .0) (omega arith))
-          (ap (entriesAt m n) x ∙ r .entries)
-          ∙ sym (entries-more l n at (o .0));
-    }
-
--- what spare bytes hold is not read: with others in their place an accepted list is accepted, and has the same entries
-pub spare-unread : (l m : List ℕ) → scanOf true l ≡ Plain → SameButSpare l m → (scanOf true m ≡ Plain) × (entriesOf m ≡ entriesOf l)
-unfolding entriesOf
-spare-unread l m p s =
-    let a = entries-alike l m (s .long) (u16At l 4) 8 (plain-of-scan l p) (s .entries) in
-    (scan-of-plain m (rw (sym (s .count)) (a .plain)), rw (sym (s .count)) (a .entries))

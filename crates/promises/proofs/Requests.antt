@@ -1,8 +1,8 @@
 -- What the requests of document 02 promise beside the three demands, a heading for each that is built, and where it is proved: each proof
 -- here is one line that cites the work. The words mean: `entryEnd true`, the place after a well shaped entry of a DACL, or 0; `scanOf true`,
--- what the entries of a DACL come to, `Plain` if they are accepted; `entriesOf`, what they are (lists/specs/Acl.antt); `LongEnough`, `saidAt`,
--- `SameButSpare` (lists/specs/Spare.antt); `readAll (held l)`, what a reader opened on a list gives, by the contracts of `opened`, `current`
--- and `stepped` (reader/specs/Reading.antt); `ReadTheSame` (demands/specs/LongEntries.antt). Assumes nothing.
+-- what the entries of a DACL come to, `Plain` if they are accepted; `entriesOf`, what they are (lists/specs/Acl.antt); `LongEnough`,
+-- `saidAt`, `SameButSpare` (lists/specs/Spare.antt); `readAll (held l)`, what a reader opened on a list gives, by the contracts of `opened`,
+-- `current` and `stepped` (reader/specs/Reading.antt); `ReadTheSame` (demands/specs/LongEntries.antt). Assumes nothing.
 use Prim.Native.Nat.{ℕ, _<_}
 use mathlib.Core.Path.{_≡_}
 use mathlib.Core.List.{List}
@@ -14,6 +14,7 @@ use Rattle.lists.specs.Acl.{entryEnd, scanOf, entriesOf}
 use Rattle.lists.specs.Spare.{LongEnough, saidAt, SameButSpare}
 use Rattle.lists.specs.declared.acl.Scan.the-variants.{Plain}
 use Rattle.lists.proofs.SpareLaws as spare
+use Rattle.lists.proofs.AlikeLaws as alike
 use Rattle.reader.specs.Reading.{held, readAll}
 use Rattle.reader.proofs.ReadingLaws as reading
 use Rattle.access.specs.Status.{Question, checked}
@@ -37,8 +38,9 @@ entries-read = reading.read-any
 
 -- "spare bytes never alter an answer". What they hold is not read: with others in their place accepted entries are accepted, and say the
 -- same; and two accepted checks whose lists read the same, and that are otherwise alike, have equal answers
-pub spare-bytes : (l m : List ℕ) → scanOf true l ≡ Plain → SameButSpare l m → (scanOf true m ≡ Plain) × (entriesOf m ≡ entriesOf l)
-spare-bytes = spare.spare-unread
+pub spare-bytes : (l m : List ℕ) → scanOf true l ≡ Plain → SameButSpare l m →
+    (scanOf true m ≡ Plain) × (entriesOf m ≡ entriesOf l)
+spare-bytes = alike.spare-unread
 
 pub same-reading : (p q : Question) → Accepted p → Accepted q → ReadTheSame p q → checked p ≡ checked q
 same-reading = long-entries.answer-read

@@ -21,7 +21,8 @@ use Rattle.lists.specs.declared.acl.Scan.the-variants.{Plain}
 use Rattle.lists.proofs.PartLaws.{byte-of-part}
 use Rattle.lists.proofs.DescriptorSteps.{part-in-past, part-in-inside}
 use Rattle.lists.proofs.AclLaws.{entries-stop, entries-more, entries-short, plain-reads-all}
-use Rattle.lists.proofs.SpareLaws.{ace-bounds, ace-past, ace-alike, entry-alike}
+use Rattle.lists.proofs.SpareLaws.{ace-bounds, ace-past}
+use Rattle.lists.proofs.AlikeLaws.{ace-alike, entry-alike}
 use Rattle.reader.specs.declared.Entries.{Entries}
 use Rattle.reader.specs.declared.Step.the-variants.{Entry as Shown, End}
 use Rattle.reader.specs.Reading.{endFrom, held, stepAt, readAll}
