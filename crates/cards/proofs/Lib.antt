@@ -9,3 +9,5 @@ pub mod Dummies
 pub mod DemandThreeMet
 -- a pair that meets the conditions of request 101's `same-reading`
 pub mod LongEntriesMet
+-- request 102: a folder that its owner keeps, and one that he loses
+pub mod OwnerEntriesMet

@@ -24,6 +24,7 @@ use Rattle.access.specs.Granted.{foundOf, answerOf}
 use Rattle.access.specs.Status.{selfFits, afterToken, checked}
 use Rattle.access.specs.QuestionFile.{blobAt, questionOf, fileAnswer}
 use Rattle.demands.specs.Strangers.{inGroups, known, struck}
+use Rattle.demands.specs.OwnerEntries.{ofObject}
 use Rattle.cards.specs.Cards.{manyRules}
 
 -- the value says nothing: what counts is the line below
@@ -37,5 +38,5 @@ unfolding
     right mapped entryMask legal explicit asked among stands hitsOf matches taken run namesOwner normalOf confinementOf
     policy.numberOf sectionAt aclSection maybeAcl ruleOf ruleAt rulesShaped rulesUnread standingOf rulesAt rulesOf judgedBy ruledFrom
     foundOf answerOf selfFits afterToken checked blobAt questionOf fileAnswer
-    inGroups known struck manyRules
+    inGroups known struck ofObject manyRules
 the-page = true

@@ -11,5 +11,9 @@ pub mod StrangersLaws
 pub mod GainLaws
 -- request 101
 pub mod LongEntriesLaws
+-- request 102
+pub mod OwnerEntriesLaws
+pub mod OwnersRightsLaws
+pub mod ObjectListsLaws
 -- what a reader of the page expects
 pub mod ReaderLaws

@@ -9,3 +9,5 @@ pub mod Conversions
 pub mod Strangers
 -- request 101's words: lists that read the same
 pub mod LongEntries
+-- request 102's words: owner entries that count, and lists without their inherit-only entries
+pub mod OwnerEntries

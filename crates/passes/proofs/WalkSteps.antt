@@ -1,7 +1,7 @@
 -- One turn of the pass, by the way that it takes: no entry stands, the table dismisses it, or it steps the tally on.
 -- Assumes nothing.
 use Prim.Native.Nat.{ℕ, suc, _-_}
-use mathlib.Core.Bool.{Bool, true, false, cond, _||_, or-false}
+use mathlib.Core.Bool.{Bool, true, false, cond, _&&_, _||_, or-false}
 use mathlib.Core.List.{List, [], _∷_}
 use mathlib.Core.Path.{_≡_, refl, sym, ap, ap₂, _∙_}
 use native.Mathlib.Omega.{arith}
@@ -15,7 +15,7 @@ use Rattle.records.specs.Crowd.{Member}
 use Rattle.masks.specs.KindsAndMasks.{entryMask}
 use Rattle.passes.specs.Marks.{dismissed, kept}
 use Rattle.passes.specs.Matching.{matches}
-use Rattle.passes.specs.NormalEvaluation.{namesOwner}
+use Rattle.passes.specs.NormalEvaluation.{counts, namesOwner}
 use Rattle.masks.specs.TheTally.{emptied, allowing, denying, stepped, idle}
 use Rattle.passes.specs.OnePass.{allows, taken, run}
 use Rattle.passes.specs.OneWalk.{walkedBy, walkedFrom, walkedOf}
@@ -62,9 +62,9 @@ unfolding run namesOwner
 walked-end kind ms h t named = rw (or-false named)
 
 pub walked-step : (kind : ℕ) (ms : List Member) (h : Hits) (t : Tally) (named : Bool) (x : Entry) (es : List Entry) →
-    walkedFrom kind ms h t named (x ∷ es) ≡ walkedFrom kind ms h (taken kind ms h t x) (named || same (x .sid) ownerRights) es
+    walkedFrom kind ms h t named (x ∷ es) ≡ walkedFrom kind ms h (taken kind ms h t x) (named || (counts x && same (x .sid) ownerRights)) es
 unfolding run namesOwner
-walked-step kind ms h t named x es = rw (names-step named (same (x .sid) ownerRights) (namesOwner es))
+walked-step kind ms h t named x es = rw (names-step named (counts x && same (x .sid) ownerRights) (namesOwner es))
 
 -- ---- the entries, where n are left and a stands at the place
 
@@ -95,7 +95,8 @@ module _ (kind : ℕ) (ms : List Member) (h : Hits) (table list : List ℕ) (n l
   walk-off d = ap (λ (es : List Entry). walkedFrom kind ms h t named es) (kept-off table list n less at a here one some d)
 
   pub walk-on : (t2 : Tally) (named2 : Bool) → dismissed table (part list (a .from) (a .to)) ≡ false →
-      named2 ≡ (named || same (part list (a .from) (a .to)) ownerRights) → t2 ≡ taken kind ms h t (entryOf list a) →
+      named2 ≡ (named || (counts (entryOf list a) && same (part list (a .from) (a .to)) ownerRights)) →
+      t2 ≡ taken kind ms h t (entryOf list a) →
       walkedFrom kind ms h t named (kept table (entriesAt list n at))
       ≡ walkedFrom kind ms h t2 named2 (kept table (entriesAt list less (a .next)))
   walk-on t2 named2 d p q =

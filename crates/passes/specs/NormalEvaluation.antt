@@ -8,7 +8,7 @@ use Rattle.lists.specs.Sid.{ownerRights}
 use Rattle.lists.specs.Acl.{Entry}
 use Rattle.records.specs.Crowd.{Member}
 use Rattle.masks.specs.KindsAndMasks.{allBits, systemSecurity}
-use Rattle.passes.specs.OnePass.{passed}
+use Rattle.passes.specs.OnePass.{skipped, passed}
 use Rattle.passes.specs.declared.matching.Hits.{Hits}
 
 -- a list that is there, or a null DACL, which has no entries
@@ -22,11 +22,11 @@ nullDacl = record { present = false; entries = [] }
 abbrev pub listed : List Entry → Dacl
 listed es = record { present = true; entries = es }
 
--- which entries that name S-1-3-4 count: allow or deny, matching or not, inherit-only too (request 102 changes this line alone)
+-- "Only entries without flag 0x08 count" (request 102), of those that name S-1-3-4: allow or deny, any mask, matching or not
 abbrev pub counts : Entry → Bool
-counts e = true
+counts e = not (skipped e)
 
--- "some entry of the DACL names S-1-3-4"
+-- "some entry of the DACL names S-1-3-4": one that counts
 unfoldable pub namesOwner : List Entry → Bool
 namesOwner [] = false
 namesOwner (e ∷ es) = let r = namesOwner es in cond (counts e && same (e .sid) ownerRights) true r

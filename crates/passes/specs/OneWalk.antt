@@ -1,4 +1,4 @@
--- One walk over a list serves every evaluation: what the pass allows, and whether some entry names S-1-3-4.
+-- One walk over a list serves every evaluation: what the pass allows, and whether some entry that counts names S-1-3-4.
 use Prim.Native.Nat.{ℕ}
 use mathlib.Core.List.{List}
 use mathlib.Core.Bool.{Bool, false, cond, _||_}
@@ -23,7 +23,7 @@ virtualMatches allow h w = cond (same w ownerRights) (side allow (h .owner)) (si
 abbrev pub walkedBy : Tally → Bool → Walked
 walkedBy t named = record { allowed = t .allowed; named = named }
 
--- the walk from a tally on, where S-1-3-4 was named before or not
+-- the walk from a tally on, where an entry that counts has named S-1-3-4 before, or none has
 abbrev pub walkedFrom : ℕ → List Member → Hits → Tally → Bool → List Entry → Walked
 walkedFrom kind ms h t named es = walkedBy (run kind ms h t es) (named || namesOwner es)
 

@@ -21,7 +21,7 @@ pub fn listed(kind: u32, present: bool, walked: Walked) -> Rights
     all_bits(kind)
 }
 
-// The owner's two rights, where the owner matches for allow and no entry names S-1-3-4.
+// The owner's two rights, where the owner matches for allow and no entry that counts names S-1-3-4.
 fn owner_gives(hits: Hits, named: bool) -> Rights
     ensures { λ r. ⌜ r .0 ≡ ownerGives hits named ⌝ }
 {

@@ -1,6 +1,7 @@
 // One walk over a list, which serves every evaluation.
 ghost use mathlib.Core.Path.{_≡_};
-ghost use mathlib.Core.Bool.{_||_};
+ghost use mathlib.Core.Bool.{not, _&&_, _||_};
+ghost use Rattle.base.specs.Bits.{has};
 ghost use Rattle.base.specs.Bytes.{same};
 ghost use Rattle.lists.specs.Sid.{ownerRights};
 ghost use Rattle.lists.specs.Acl.{entriesOf};
@@ -17,20 +18,30 @@ use lists::Rights;
 use masks::Tally;
 use masks::entry_mask;
 
-// What the pass allows, and whether some entry names S-1-3-4.
+// What the pass allows, and whether some entry that counts names S-1-3-4.
 pub struct Walked {
     pub allowed: Rights,
     pub named: bool,
 }
 
-// Whether S-1-3-4 was named before, or is now.
-fn names(before: bool, w: &[u8]) -> bool
-    ensures { λ r. ⌜ r ≡ (before || same (now (w .entry)) ownerRights) ⌝ }
+// Whether an entry that names S-1-3-4 counts, by its flags: not if it is for children only.
+fn counts(flags: u8) -> bool
+    ensures { λ r. ⌜ r ≡ not (has flags 0x08) ⌝ }
+{
+    flags & 0x08 == 0
+}
+
+// Whether S-1-3-4 was named before, or is now by an entry that counts.
+fn names(before: bool, flags: u8, w: &[u8]) -> bool
+    ensures { λ r. ⌜ r ≡ (before || (not (has flags 0x08) && same (now (w .entry)) ownerRights)) ⌝ }
 {
     if before {
         return true;
     }
-    lists::is_owner_rights(w)
+    if counts(flags) {
+        return lists::is_owner_rights(w);
+    }
+    false
 }
 
 // The pass of a list against the crowd at a place of a listing: each entry in stored order, each
@@ -69,7 +80,7 @@ pub fn pass(
         if dismissed(table, who) {
             continue 'entries;
         }
-        named = names(named, who);
+        named = names(named, e.flags, who);
         let mask = entry_mask(kind, e.mask);
         if t.idle(e.flags, mask) {
             continue 'entries;

@@ -2,25 +2,37 @@
 -- here is one line that cites the work. The words mean: `entryEnd true`, the place after a well shaped entry of a DACL, or 0; `scanOf true`,
 -- what the entries of a DACL come to, `Plain` if they are accepted; `entriesOf`, what they are (lists/specs/Acl.antt); `LongEnough`,
 -- `saidAt`, `SameButSpare` (lists/specs/Spare.antt); `readAll (held l)`, what a reader opened on a list gives, by the contracts of `opened`,
--- `current` and `stepped` (reader/specs/Reading.antt); `ReadTheSame` (demands/specs/LongEntries.antt). Assumes nothing.
+-- `current` and `stepped` (reader/specs/Reading.antt); `ReadTheSame` (demands/specs/LongEntries.antt); `namesOwner`, whether a list takes
+-- the owner's two rights away, `listGives`, what it allows by itself, `normalOf`, what normal evaluation gives with it
+-- (passes/specs/NormalEvaluation.antt); `OwnerEntry`, `GoesBy`, `OwnerAsks`, `ownersRights`, `itsList`, `byObject`
+-- (demands/specs/OwnerEntries.antt). Assumes nothing.
 use Prim.Native.Nat.{ℕ, _<_}
 use mathlib.Core.Path.{_≡_}
 use mathlib.Core.List.{List}
 use mathlib.Core.Bool.{true}
 use mathlib.Core.Logic.{_↔_}
 use lib.ListN.{take}
+use Rattle.base.specs.Bits.{and, Within}
 use Rattle.base.specs.Bytes.{byteAt, u16At}
-use Rattle.lists.specs.Acl.{entryEnd, scanOf, entriesOf}
+use Rattle.lists.specs.Acl.{Entry, entryEnd, scanOf, entriesOf}
 use Rattle.lists.specs.Spare.{LongEnough, saidAt, SameButSpare}
 use Rattle.lists.specs.declared.acl.Scan.the-variants.{Plain}
 use Rattle.lists.proofs.SpareLaws as spare
 use Rattle.lists.proofs.AlikeLaws as alike
 use Rattle.reader.specs.Reading.{held, readAll}
 use Rattle.reader.proofs.ReadingLaws as reading
+use Rattle.records.specs.Crowd.{Member}
+use Rattle.masks.specs.KindsAndMasks.{asked}
+use Rattle.passes.specs.NormalEvaluation.{Dacl, namesOwner, listGives, normalOf}
+use Rattle.passes.specs.declared.matching.Hits.{Hits}
 use Rattle.access.specs.Status.{Question, checked}
 use Rattle.demands.specs.Accepted.{Accepted}
 use Rattle.demands.specs.LongEntries.{ReadTheSame}
+use Rattle.demands.specs.OwnerEntries.{OwnerEntry, GoesBy, OwnerAsks, ownersRights, itsList, byObject}
 use Rattle.demands.proofs.LongEntriesLaws as long-entries
+use Rattle.demands.proofs.OwnerEntriesLaws as owner-entries
+use Rattle.demands.proofs.OwnersRightsLaws as owners-rights
+use Rattle.demands.proofs.ObjectListsLaws as object-lists
 
 -- ---- #101 Older lists with long entries. "Accept a size of 8 plus the SID's length or more, still a multiple of 4."
 -- Of an allow or deny entry in a DACL: well shaped exactly then
@@ -44,3 +56,32 @@ spare-bytes = alike.spare-unread
 
 pub same-reading : (p q : Question) → Accepted p → Accepted q → ReadTheSame p q → checked p ≡ checked q
 same-reading = long-entries.answer-read
+
+-- ---- #102 Owner entries meant for children. "Only entries without flag 0x08 count from now on, in the descriptor and in rule lists."
+-- Of those that name S-1-3-4: a list takes the owner's two rights away exactly if it has one without the flag, allow or deny, any mask
+pub owner-entry : (es : List Entry) → namesOwner es ≡ true ↔ OwnerEntry es
+owner-entry = owner-entries.named-when
+
+-- With none in the descriptor's list and in the effective lists of rules, or inherit-only ones alone, an owner who asks keeps both rights:
+-- they are granted as far as they are asked and confinement leaves them
+pub owner-keeps : (q : Question) → Accepted q → OwnerAsks q → ((d : Dacl) → GoesBy q d → OwnerEntry (d .entries) → ⊥) →
+    Within (and (asked (q .kind) (q .mask)) (ownersRights q)) (checked q .granted .0)
+owner-keeps = owners-rights.owner-keeps
+
+-- One in any of these lists takes them: of the two rights none is granted that this list does not by itself allow
+pub owner-loses : (q : Question) (d : Dacl) → Accepted q → GoesBy q d → OwnerEntry (d .entries) →
+    Within (and (checked q .granted .0) 0x60000) (itsList q d)
+owner-loses = owners-rights.owner-loses
+
+-- The same of any one list, a staged one too: a rule's effective and staged result is what normal evaluation gives with that list
+pub list-keeps : (kind : ℕ) (ms : List Member) (h : Hits) (p : ℕ) (d : Dacl) → h .owner .allow ≡ true → (OwnerEntry (d .entries) → ⊥) →
+    Within 0x60000 (normalOf kind ms h p d)
+list-keeps = owners-rights.list-keeps
+
+pub list-loses : (kind : ℕ) (ms : List Member) (h : Hits) (p : ℕ) (d : Dacl) → OwnerEntry (d .entries) →
+    Within (and (normalOf kind ms h p d) 0x60000) (listGives kind ms h d)
+list-loses = owners-rights.list-loses
+
+-- "An inherit-only entry says nothing about the object itself": all three answers are those of the lists without such entries
+pub children-apart : (q : Question) → Accepted q → checked q ≡ byObject q
+children-apart = object-lists.answer-object

@@ -21,6 +21,7 @@ fn main() {
     println!("memcmp: every entry's SID against every identity by memcmp; nothing is parsed.");
     println!("match: no entry names the asker, or the first one does and allows everything.");
     println!("spare: none does, and each entry has so many spare bytes behind its SID.");
+    println!("owner: all name S-1-3-4 with these flags, on an object of the asker's if 0x08.");
     println!();
     heading("match");
     for entries in [8, 500, 3000] {
@@ -42,6 +43,13 @@ fn main() {
         let input = Input::long(entries, 21, spare);
         same_answers(&input);
         row(&input, calls);
+    }
+    println!();
+    heading("owner");
+    for flags in [0x08, 0] {
+        let input = Input::for_owner(500, 21, flags);
+        same_answers(&input);
+        row(&input, 1);
     }
     println!();
     conversions();
@@ -112,15 +120,11 @@ fn row(input: &Input, calls: usize) {
         masks.iter().for_each(|_| keep(compare_only(black_box(&entries), black_box(&identities))))
     };
     let [library, plain, memcmp] = best([&mut ask_library, &mut ask_plain, &mut scan]);
-    let third = match input.spare {
-        0 if input.early => "first".to_string(),
-        0 => "none".to_string(),
-        spare => spare.to_string(),
-    };
     print!(
-        "{:>7} {:>10} {third:>6} {:>6} {:>5} {library:>12} {plain:>12} {:>7}",
+        "{:>7} {:>10} {:>6} {:>6} {:>5} {library:>12} {plain:>12} {:>7}",
         input.entries,
         input.identities,
+        input.third,
         input.rules,
         calls,
         library.ratio(plain),

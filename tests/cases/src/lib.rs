@@ -2,6 +2,7 @@
 //!
 //! Nothing here reads what it makes, or knows what the answer should be.
 
+mod children;
 mod damage;
 pub mod hex;
 pub mod make;

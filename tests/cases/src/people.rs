@@ -104,6 +104,8 @@ fn families() -> Vec<Vec<Vec<u8>>> {
 /// The cast of one case.
 pub struct People {
     cast: Vec<Vec<u8>>,
+    /// Who owns the object and asks, in a case about an owner's rights.
+    pub asking_owner: Option<Vec<u8>>,
 }
 
 impl People {
@@ -120,7 +122,7 @@ impl People {
                 let family = if rng.one_in(4) { rng.pick(families) } else { home };
                 cast.push(rng.pick(family).clone());
             }
-            People { cast }
+            People { cast, asking_owner: None }
         })
     }
 
@@ -135,6 +137,20 @@ impl People {
             0 => owner_rights(),
             1 => principal_self(),
             _ => self.one(rng),
+        }
+    }
+
+    /// Whether the case is about an owner's rights.
+    pub fn are_about_owner(&self) -> bool {
+        self.asking_owner.is_some()
+    }
+
+    /// Whom an entry names: every other time S-1-3-4, in a case about an owner's rights.
+    pub fn named(&self, rng: &mut Rng) -> Vec<u8> {
+        if self.are_about_owner() && rng.one_in(2) {
+            owner_rights()
+        } else {
+            self.one_or_virtual(rng)
         }
     }
 }

@@ -1,6 +1,7 @@
 //! Random cases from a seed: questions that are mostly accepted, and conversions. `damage`
 //! spoils some of them.
 
+use crate::children;
 use crate::damage;
 use crate::make::{self, Question, Token};
 use crate::people::{self, People};
@@ -137,9 +138,12 @@ pub struct LaidRule {
 }
 
 fn question(rng: &mut Rng) -> Question {
-    let people = People::new(rng);
+    let mut people = People::new(rng);
+    if rng.one_in(4) {
+        people.asking_owner = Some(people.one(rng));
+    }
     let kind = 1 + rng.below(2) as u32;
-    let draft = Draft {
+    let mut draft = Draft {
         kind,
         mask: desired(rng, kind),
         token: token(rng, &people, 2000),
@@ -147,6 +151,9 @@ fn question(rng: &mut Rng) -> Question {
         descriptor: descriptor(rng, &people),
         policy: policy(rng, &people),
     };
+    if let Some(owner) = &people.asking_owner {
+        children::owner_asks(rng, &mut draft, owner);
+    }
     match rng.below(40) {
         0..=23 => draft.join(),
         24..=32 => damage::parts(rng, draft, 1),
@@ -314,23 +321,30 @@ fn list(
     let mut bytes = vec![rng.of(&[2, 4]), rng.of(&[0, 0, 0xFF]), 0, 0, 0, 0, 0, rng.of(&[0, 7])];
     let mut entries = Vec::new();
     let with_spare = is_dacl && rng.one_in(4);
-    for _ in 0..count {
+    let about_owner = is_dacl && people.are_about_owner();
+    // In a list about the owner all entries may have the same flags, but perhaps one of them. In a
+    // long one they do, so that the one may matter.
+    let alike = about_owner && (count > 8 || rng.one_in(2));
+    let alike = alike.then(|| (children::flags(rng), rng.below(2 * count.max(1))));
+    for number in 0..count {
         if bytes.len() > 60_000 {
             break;
         }
         entries.push(bytes.len());
-        let flags = match rng.below(8) {
-            0 => 0x08,
-            1 => rng.byte(),
+        let flags = match (alike, rng.below(8)) {
+            (Some((flags, one)), _) if number != one => flags,
+            _ if about_owner => children::flags(rng),
+            (_, 0) => 0x08,
+            (_, 1) => rng.byte(),
             _ => rng.of(&[0, 0, 3, 0x10, 0xF7]),
         };
         if is_dacl {
             let kind = u8::from(rng.one_in(3));
-            let mask = entry_mask(rng);
+            let mask = if about_owner { children::mask(rng) } else { entry_mask(rng) };
             bytes.extend(if with_spare && rng.one_in(2) {
                 spare::entry(rng, people, kind, flags, mask)
             } else {
-                make::entry(kind, flags, mask, &people.one_or_virtual(rng))
+                make::entry(kind, flags, mask, &people.named(rng))
             });
         } else if rng.one_in(2) {
             bytes.extend(make::entry(2, flags, entry_mask(rng), &people.one(rng)));
@@ -390,7 +404,7 @@ const DACL: usize = 16;
 fn descriptor(rng: &mut Rng, people: &People) -> Laid {
     let mut laid = Laid { bytes: vec![0; 20], ..Laid::default() };
     let mut control = 0x8000u16 | (rng.u64() as u16 & 0x7FEB & rng.u64() as u16);
-    let most = if rng.one_in(700) { 3000 } else { 8 };
+    let most = if rng.one_in(if people.are_about_owner() { 50 } else { 700 }) { 3000 } else { 8 };
     let has_dacl = !rng.one_in(10);
     let has_sacl = rng.one_in(5);
 
@@ -409,10 +423,10 @@ fn descriptor(rng: &mut Rng, people: &People) -> Laid {
             GROUP if rng.one_in(2) => offset = 0,
             OWNER | GROUP => {
                 laid.sids.push(at);
-                laid.bytes.extend(if rng.one_in(4) {
-                    people.one_or_virtual(rng)
-                } else {
-                    people.one(rng)
+                laid.bytes.extend(match &people.asking_owner {
+                    Some(owner) if field == OWNER => owner.clone(),
+                    _ if rng.one_in(4) => people.one_or_virtual(rng),
+                    _ => people.one(rng),
                 });
             }
             SACL if has_sacl => {
@@ -486,7 +500,7 @@ impl Laid {
 }
 
 fn policy(rng: &mut Rng, people: &People) -> Option<Vec<LaidRule>> {
-    if rng.one_in(2) {
+    if rng.one_in(if people.are_about_owner() { 4 } else { 2 }) {
         return None;
     }
     let count = if rng.one_in(1000) { rng.of(&[32, 255, 256, 257]) } else { rng.below(4) };
@@ -499,9 +513,10 @@ fn policy(rng: &mut Rng, people: &People) -> Option<Vec<LaidRule>> {
 pub fn rule(rng: &mut Rng, people: &People, room: usize) -> LaidRule {
     let mut section =
         |is_dacl, one_in: usize| rng.one_in(one_in).then(|| list(rng, people, is_dacl, 5, room));
+    let staged = if people.are_about_owner() { 1 } else { 2 };
     LaidRule {
         applies_to: Vec::new(),
-        lists: [section(true, 1), section(false, 6), section(true, 2), section(false, 6)],
+        lists: [section(true, 1), section(false, 6), section(true, staged), section(false, 6)],
     }
 }
 

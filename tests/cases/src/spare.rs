@@ -7,7 +7,7 @@ use crate::rng::Rng;
 
 /// An entry that goes on behind its SID, mostly not far.
 pub fn entry(rng: &mut Rng, people: &People, kind: u8, flags: u8, mask: u32) -> Vec<u8> {
-    let mut sid = people.one_or_virtual(rng);
+    let mut sid = people.named(rng);
     if sid[1] > 0 && rng.one_in(6) {
         // Another identity, of fewer words. Those that it does not count are spare.
         sid[1] = rng.below(usize::from(sid[1])) as u8;

@@ -1,6 +1,7 @@
 //! Random cases, one after the other: the reference says what should come out, the library
 //! says what does.
 
+use crate::children;
 use crate::fence;
 use crate::library::{Library, Said};
 use crate::spare;
@@ -28,8 +29,8 @@ const STATUS: [&str; 13] = [
     "question file",
 ];
 
-/// What has to be reached besides.
-const REACHED: [&str; 7] = [
+/// What has to be reached besides, and all of `children::ROWS`.
+const REACHED: [&str; 10] = [
     "accepted, with spare bytes in an entry of the descriptor's DACL",
     "accepted, with spare bytes in an entry of an effective DACL",
     "accepted, with spare bytes in an entry of a staged DACL",
@@ -37,8 +38,13 @@ const REACHED: [&str; 7] = [
     "refused 6, only because a SID ends behind its entry",
     "refused 9, only because a SID ends behind its entry",
     "asked once more, with other spare bytes in its entries",
+    "asked once more, with its inherit-only entries taken out",
+    "asked once more, with inherit-only entries put in",
+    "asked once more, with others for its inherit-only entries",
 ];
-const TWIN: usize = 6;
+const SPARE_TWIN: usize = 6;
+/// The first of `children::Way`.
+const CHILDREN_TWIN: usize = 7;
 
 /// After this many differences the rest is not looked at.
 const ENOUGH: u32 = 5;
@@ -46,7 +52,8 @@ const ENOUGH: u32 = 5;
 #[derive(Default)]
 struct Tally {
     status: [u64; 13],
-    reached: [u64; 7],
+    reached: [u64; 10],
+    children: children::Table,
     checks: u64,
     files: u64,
     records: u64,
@@ -81,9 +88,9 @@ pub fn many(seed: u64, count: u64) -> bool {
     if !missing.is_empty() {
         println!("never reached: status {missing:?}. More cases, or another seed?");
     }
-    let unreached: Vec<usize> = (0..7).filter(|&r| tally.reached[r] == 0).collect();
-    for &what in &unreached {
-        println!("never reached: {}. More cases, or another seed?", REACHED[what]);
+    let unreached = tally.unreached();
+    for what in &unreached {
+        println!("never reached: {what}. More cases, or another seed?");
     }
     println!("compare: {count} cases, {differences} differences");
     differences == 0 && missing.is_empty() && unreached.is_empty()
@@ -117,10 +124,9 @@ fn compare(
             tally.answer(&expected);
             tally.reach(q, &expected);
             same(expected, library.check(q, dice))?;
-            // And the same question with other spare bytes, now and then.
             match expected {
-                Ok(answer) if rng.one_in(4) => once_more(library, q, answer, rng, tally),
-                _ => Ok(()),
+                Ok(answer) => once_more(library, q, answer, rng, tally),
+                Err(_) => Ok(()),
             }
         }
         Case::File(file) => {
@@ -157,8 +163,8 @@ fn compare(
     }
 }
 
-/// The library says of a question with other spare bytes in its entries what it said before. This
-/// takes no second opinion.
+/// Now and then an accepted question is asked once more, with other spare bytes in its entries or
+/// with other inherit-only entries.
 fn once_more(
     library: &mut Library,
     q: &Question,
@@ -166,14 +172,35 @@ fn once_more(
     rng: &mut Rng,
     tally: &mut Tally,
 ) -> Result<(), String> {
-    let Some(twin) = spare::twin(q, rng) else { return Ok(()) };
-    tally.reached[TWIN] += 1;
-    let said = library.check(&twin, rng.u64())?;
+    if rng.one_in(4) {
+        if let Some(twin) = spare::twin(q, rng) {
+            tally.reached[SPARE_TWIN] += 1;
+            still(library, &twin, before, rng, "other spare bytes")?;
+        }
+    }
+    if rng.one_in(4) {
+        if let Some((twin, way)) = children::twin(q, rng) {
+            tally.reached[CHILDREN_TWIN + way as usize] += 1;
+            still(library, &twin, before, rng, "other inherit-only entries")?;
+        }
+    }
+    Ok(())
+}
+
+/// The library says of a twin what it said before. This takes no second opinion.
+fn still(
+    library: &mut Library,
+    twin: &Question,
+    before: reference::Answer,
+    rng: &mut Rng,
+    with: &str,
+) -> Result<(), String> {
+    let said = library.check(twin, rng.u64())?;
     if said == Ok(before) {
         return Ok(());
     }
     Err(format!(
-        "library {before:?}, and {said:?} with other spare bytes:\n  descriptor = {}\n  policy = {}",
+        "library {before:?}, and {said:?} with {with}:\n  descriptor = {}\n  policy = {}",
         hex::encode(&twin.descriptor),
         hex::encode(&twin.policy),
     ))
@@ -242,7 +269,8 @@ impl Tally {
 
     fn reach(&mut self, q: &Question, expected: &Result<reference::Answer, u32>) {
         match *expected {
-            Ok(_) => {
+            Ok(answer) => {
+                children::add(q, answer, &mut self.children);
                 let seen = spare::seen(q);
                 self.reached[0] += u64::from(seen.descriptor);
                 self.reached[1] += u64::from(seen.effective);
@@ -253,6 +281,20 @@ impl Tally {
             Err(9) => self.reached[5] += u64::from(spare::refused_by_end_of_sid(q, 9)),
             Err(_) => {}
         }
+    }
+
+    /// What should have been reached and was not.
+    fn unreached(&self) -> Vec<String> {
+        let mut all = Vec::new();
+        for (_, name) in self.reached.iter().zip(REACHED).filter(|(&times, _)| times == 0) {
+            all.push(name.to_string());
+        }
+        for (times, row) in self.children.iter().zip(children::ROWS) {
+            for (_, list) in times.iter().zip(children::COLUMNS).filter(|(&times, _)| times == 0) {
+                all.push(format!("decided by entries for S-1-3-4 in {list}: {row}"));
+            }
+        }
+        all
     }
 
     fn print(&self, seed: u64, count: u64) {
@@ -269,6 +311,11 @@ impl Tally {
         );
         for (times, name) in self.reached.iter().zip(REACHED) {
             println!("  {times:9}  {name}");
+        }
+        let columns = children::COLUMNS.join(", ");
+        println!("  accepted, and decided by entries for S-1-3-4 in {columns}:");
+        for ([descriptor, effective, staged], name) in self.children.iter().zip(children::ROWS) {
+            println!("  {descriptor:9} {effective:9} {staged:9}  {name}");
         }
     }
 }

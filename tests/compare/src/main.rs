@@ -5,9 +5,11 @@
 //!
 //! The exit code is 0 if nothing differs, 1 if something does, 2 for a wrong command line.
 
+mod children;
 mod compare;
 mod fence;
 mod library;
+mod lists;
 mod spare;
 mod vectors;
 

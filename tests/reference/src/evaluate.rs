@@ -94,6 +94,12 @@ fn pass(setting: &Setting, listed: &[Listed], list: &Acl) -> u32 {
     allowed
 }
 
+/// Whether some entry of a list names S-1-3-4, allow or deny and whatever its mask. An inherit-only
+/// entry says nothing about the object itself, and does not count.
+fn speaks_for_owner(list: &Acl) -> bool {
+    list.entries.iter().any(|entry| !entry.is_inherit_only() && entry.sid() == sid::OWNER_RIGHTS)
+}
+
 /// Normal evaluation, for the descriptor's list and for each rule's.
 fn normal(setting: &Setting, list: Option<&Acl>) -> u32 {
     let listed = normal_identities(setting.token);
@@ -101,8 +107,7 @@ fn normal(setting: &Setting, list: Option<&Acl>) -> u32 {
         None => setting.rights.all,
         Some(list) => pass(setting, &listed, list),
     };
-    let spoken_for =
-        list.is_some_and(|list| list.entries.iter().any(|entry| entry.sid() == sid::OWNER_RIGHTS));
+    let spoken_for = list.is_some_and(speaks_for_owner);
     // The owner's own bytes have to be listed. No accepted token lists a virtual identity, so an
     // owner that is one matches nothing.
     if !spoken_for && matches_directly(&listed, setting.owner).allow {

@@ -1,7 +1,7 @@
 //! The access check once more, in plain Rust.
 //!
-//! Written from document 01 alone, with request 101 of document 02, and not from the proved
-//! library, so that the two can be compared. It is meant to be read: it copies and allocates
+//! Written from document 01 alone, with requests 101 and 102 of document 02, and not from the
+//! proved library, so that the two can be compared. It is meant to be read: it copies and allocates
 //! freely, and every step stands where the document has it. For speed look elsewhere.
 //!
 //! Refusals are the document's numbers as they are, in `Err`.

@@ -1,6 +1,7 @@
 //! Where two readers came apart, or where another system answers otherwise. The object is a
 //! file owned by W, and U asks, unless said.
 
+mod children;
 mod confinement;
 mod identities;
 mod rights;
@@ -24,6 +25,7 @@ fn one_rule(entries: &[Vec<u8>]) -> Vec<u8> {
 pub fn cases() -> Vec<Case> {
     let mut all = identities::cases();
     all.extend(rights::cases());
+    all.extend(children::cases());
     all.extend(walks::cases());
     all.extend(confinement::cases());
     all

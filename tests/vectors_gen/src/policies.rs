@@ -24,6 +24,7 @@ pub fn cases() -> Vec<Case> {
     all.extend(sections());
     all.extend(rules());
     all.extend(long_entries());
+    all.extend(owners());
     all
 }
 
@@ -286,6 +287,105 @@ fn long_entries() -> Vec<Case> {
         good(
             "SACLs of a rule with allow entries shorter than their SIDs",
             policy(&[Rule { effective_sacl: short(), staged_sacl: short(), ..reading() }]),
+        ),
+    ]
+}
+
+/// Entries for S-1-3-4 that are meant for children, and those that count. For a rule its own list
+/// decides, and for each of its two results the list of that result. U owns the object and asks for
+/// an owner's two rights.
+fn owners() -> Vec<Case> {
+    const BOTH: u32 = 0x6_0000;
+    let own = owner_rights();
+    let child = || make::entry(0, 0x08, BOTH, &own);
+    let nothing = || deny(0, &own);
+    let rule = |entries: &[Vec<u8>]| Rule::of(&acl(entries));
+    let asks = |dacl: &[Vec<u8>], rules: &[Rule]| {
+        on(tu(), BOTH, Descriptor::owned_by(&u()).dacl(&acl(dacl))).policy(policy(rules))
+    };
+    let staged = |effective: &[Vec<u8>], staged: &[Vec<u8>]| {
+        asks(&[], &[rule(effective).staged(&acl(staged))])
+    };
+    vec![
+        ask(
+            "owner rights: an inherit-only S-1-3-4 takes nothing from a rule's result",
+            asks(&[], &[rule(&[child()])]),
+            yes(BOTH),
+        ),
+        ask(
+            "owner rights: in a rule flags 0x1b do not count",
+            asks(&[], &[rule(&[make::entry(1, 0x1B, u32::MAX, &own)])]),
+            yes(BOTH),
+        ),
+        ask(
+            "owner rights: in a rule flags 0x13 count",
+            asks(&[], &[rule(&[make::entry(1, 0x13, 0, &own)])]),
+            no(0),
+        ),
+        ask(
+            "owner rights: inherit-only in the DACL, and one that counts in a rule",
+            asks(&[child()], &[rule(&[nothing()])]),
+            no(0),
+        ),
+        ask(
+            "owner rights: one that counts in the DACL, and inherit-only in a rule",
+            asks(&[nothing()], &[rule(&[child()])]),
+            no(0),
+        ),
+        ask(
+            "owner rights: inherit-only in a rule, and the DACL allows the owner both by S-1-3-4",
+            asks(&[allow(BOTH, &own)], &[rule(&[child()])]),
+            yes(BOTH),
+        ),
+        ask(
+            "owner rights: inherit-only in the first rule, one that counts in the second",
+            asks(&[], &[rule(&[child()]), rule(&[allow(0x2_0000, &own)])]),
+            no(0x2_0000),
+        ),
+        ask(
+            "owner rights: in a rule one counts behind an inherit-only one",
+            asks(&[], &[rule(&[child(), allow(0x4_0000, &own)])]),
+            no(0x4_0000),
+        ),
+        ask(
+            "owner rights: a null DACL, and an inherit-only S-1-3-4 in a rule",
+            on(tu(), 0x6_0001, Descriptor::owned_by(&u())).policy(policy(&[rule(&[child()])])),
+            no(BOTH),
+        ),
+        ask(
+            "staging: an inherit-only S-1-3-4 in the staged list alone raises no flag",
+            staged(&[], &[child()]),
+            yes(BOTH),
+        ),
+        ask(
+            "staging: an inherit-only S-1-3-4 in the effective list alone raises no flag",
+            staged(&[child()], &[]),
+            yes(BOTH),
+        ),
+        ask(
+            "staging: inherit-only in the effective list, one that counts in the staged one",
+            staged(&[child()], &[nothing()]),
+            yes_staged(BOTH),
+        ),
+        ask(
+            "staging: one that counts in the effective list, inherit-only in the staged one",
+            staged(&[nothing()], &[child()]),
+            no_staged(0),
+        ),
+        ask(
+            "staging: an inherited S-1-3-4 in the staged list counts",
+            staged(&[], &[make::entry(0, 0x10, 0x2_0000, &own)]),
+            yes_staged(BOTH),
+        ),
+        ask(
+            "staging: an inherit-only S-1-3-4 in the staged list undoes none that counts before it",
+            staged(&[child()], &[nothing(), child()]),
+            yes_staged(BOTH),
+        ),
+        ask(
+            "staging: both lists have one that counts, before and behind an inherit-only one",
+            staged(&[nothing(), child()], &[child(), nothing()]),
+            no(0),
         ),
     ]
 }

@@ -128,10 +128,12 @@ pub fn dacl(setting: &Setting, confine: bool, bytes: &[u8]) -> Option<(usize, Wa
         }
         // What the entry has behind its SID is spare.
         let sid = entry.get(8..16 + 4 * usize::from(entry[9]))?;
+        // An inherit-only entry says nothing about the object itself.
+        let inherit_only = entry[1] & 0x08 != 0;
         if sid.len() == 12 && sid == OWNER_RIGHTS {
-            walked.names_owner = true;
+            walked.names_owner |= !inherit_only;
         }
-        if entry[1] & 0x08 != 0 {
+        if inherit_only {
             continue;
         }
         let mask = map(setting.rights, u32_at(entry, 4)) & setting.asked;

@@ -36,7 +36,7 @@ fn owners() -> Vec<Case> {
         ask("owner rights: an entry that names S-1-3-4 takes the two rights away, here a deny of nothing",
             owned(&u(), 0x6_0000, &[deny(0, &own)]), no(0)),
         ask("owner rights: an allow of nothing", owned(&u(), 0x6_0000, &[allow(0, &own)]), no(0)),
-        ask("owner rights: an inherit-only entry", owned(&u(), 0x6_0000, &[entry(0, 0x08, 0x6_0000, &own)]), no(0)),
+        ask("owner rights: an inherit-only entry takes nothing away", owned(&u(), 0x6_0000, &[entry(0, 0x08, 0x6_0000, &own)]), yes(0x6_0000)),
         ask("owner rights: an entry at the end of the list",
             owned(&u(), 0x6_0000, &[allow(1, &u()), allow(0x2_0000, &own)]), no(0x2_0000)),
         ask("owner rights: S-1-3-4-0 is another identity", owned(&u(), 0x6_0000, &[allow(0, &sid(3, &[4, 0]))]), yes(0x6_0000)),

@@ -3,7 +3,7 @@
 -- and the members left.
 -- Assumes nothing.
 use Prim.Native.Nat.{ℕ, _≤_, _-_, _+_}
-use mathlib.Core.Bool.{Bool, true, false, _||_}
+use mathlib.Core.Bool.{Bool, true, false, _&&_, _||_}
 use mathlib.Core.List.{List, []}
 use mathlib.Core.Logic.{⊎-elim}
 use mathlib.Core.Path.{_≡_, sym, ap, _∙_}
@@ -18,6 +18,7 @@ use Rattle.lists.specs.declared.acl.Ace.{Ace}
 use Rattle.records.specs.Crowd.{Member, crowdAt}
 use Rattle.passes.specs.Marks.{dismissed, kept}
 use Rattle.passes.specs.Matching.{among}
+use Rattle.passes.specs.NormalEvaluation.{counts}
 use Rattle.passes.specs.OnePass.{taken}
 use Rattle.masks.specs.TheTally.{idle}
 use Rattle.passes.specs.OneWalk.{walkedFrom, walkedOf}
@@ -118,8 +119,8 @@ off p d =
 
 -- the table keeps it
 on : (p : Standing) (t : Tally) (named : Bool) → dismissed (table-of p) (who-of p) ≡ false →
-    named ≡ (named-of p || same (who-of p) ownerRights) → t ≡ taken (kind-of p) (crowd-of p) (hits-of p) (tally-of p) (entry-of p) →
-    Next p t named
+    named ≡ (named-of p || (counts (entry-of p) && same (who-of p) ownerRights)) →
+    t ≡ taken (kind-of p) (crowd-of p) (hits-of p) (tally-of p) (entry-of p) → Next p t named
 on p t named d e f =
     let more = p .before .before .entries-test .taken in
     let l = p .before .before .before .entries in (

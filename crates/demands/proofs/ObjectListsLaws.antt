@@ -1,0 +1,91 @@
+-- Request 102, lists without their inherit-only entries. The index: names-object skipped-taken run-object; what a list gives: gives-object
+-- normal-object; all rules: judged-object ruled-object; the whole: confinement-object found-object answer-object. Assumes nothing.
+use Prim.Native.Nat.{ℕ}
+use mathlib.Core.Path.{_≡_, refl, ap, _∙_}
+use mathlib.Core.List.{List, [], _∷_, map}
+use mathlib.Core.Bool.{Bool, true, false, cond, _&&_}
+use Rattle.base.specs.Bits.{has}
+use Rattle.base.specs.Bytes.{same}
+use Rattle.lists.specs.Sid.{ownerRights}
+use Rattle.lists.specs.Acl.{Entry}
+use Rattle.lists.specs.Descriptor.{ownerOf}
+use Rattle.records.specs.Token.{Token}
+use Rattle.records.specs.Crowd.{Member, crowdOf, confinedOf}
+use Rattle.masks.specs.KindsAndMasks.{allBits}
+use Rattle.masks.specs.TheTally.{emptied}
+use Rattle.passes.specs.Matching.{hitsOf}
+use Rattle.passes.specs.OnePass.{taken, run}
+use Rattle.passes.specs.NormalEvaluation.{Dacl, listed, counts, namesOwner, listGives, normalOf}
+use Rattle.passes.specs.Confinement.{confinementOf}
+use Rattle.passes.specs.declared.matching.Hits.{Hits}
+use Rattle.masks.specs.declared.tally.Tally.{Tally}
+use Rattle.policy.specs.Rules.{Lists, rulesOf, judgedBy, ruledFrom}
+use Rattle.policy.specs.declared.rules.Ruled.{Ruled}
+use Rattle.access.specs.Granted.{foundOf, answerOf}
+use Rattle.access.specs.Status.{Question, daclIn, checked}
+use Rattle.demands.specs.Accepted.{Accepted, tokenIn}
+use Rattle.demands.specs.OwnerEntries.{ofObject, objectList, objectLists, byObject}
+use Rattle.demands.proofs.AcceptedLaws.{accepted-is}
+
+names-object : (es : List Entry) → namesOwner es ≡ namesOwner (ofObject es)
+unfolding namesOwner ofObject
+names-object [] = refl
+names-object (e ∷ es) = go (names-object es) (has (e .flags) 0x08) refl
+  where
+    go : namesOwner es ≡ namesOwner (ofObject es) → (b : Bool) → has (e .flags) 0x08 ≡ b →
+        namesOwner (e ∷ es) ≡ namesOwner (cond b (ofObject es) (e ∷ ofObject es))
+    go rest true k = rw k rest
+    go rest false k = ap (λ (b : Bool). cond (counts e && same (e .sid) ownerRights) true b) rest
+
+module _ (kind : ℕ) (ms : List Member) (h : Hits) where
+  skipped-taken : (t : Tally) (e : Entry) → has (e .flags) 0x08 ≡ true → taken kind ms h t e ≡ t
+  unfolding taken
+  skipped-taken t e k = rw k
+
+  run-object : (es : List Entry) (t : Tally) → run kind ms h t es ≡ run kind ms h t (ofObject es)
+  unfolding run ofObject
+  run-object [] t = refl
+  run-object (e ∷ es) t = go (run-object es) (has (e .flags) 0x08) refl
+    where
+      go : ((x : Tally) → run kind ms h x es ≡ run kind ms h x (ofObject es)) → (b : Bool) → has (e .flags) 0x08 ≡ b →
+          run kind ms h (taken kind ms h t e) es ≡ run kind ms h t (cond b (ofObject es) (e ∷ ofObject es))
+      go rest true k = ap (λ (x : Tally). run kind ms h x es) (skipped-taken t e k) ∙ rest t
+      go rest false k = rest (taken kind ms h t e)
+
+  gives-object : (d : Dacl) → listGives kind ms h d ≡ listGives kind ms h (objectList d)
+  gives-object d = ap (λ (t : Tally). cond (d .present) (t .allowed .0) (allBits kind)) (run-object (d .entries) emptied)
+
+  module _ (p : ℕ) where
+    normal-object : (d : Dacl) → normalOf kind ms h p d ≡ normalOf kind ms h p (objectList d)
+    unfolding normalOf
+    normal-object d = rw (gives-object d, names-object (d .entries))
+
+    judged-object : (st : Ruled) (r : Lists) → judgedBy kind ms h p st r ≡ judgedBy kind ms h p st (objectLists r)
+    unfolding judgedBy
+    judged-object st r = rw (normal-object (listed (r .effective)), normal-object (listed (r .staged)))
+
+    ruled-object : (rs : List Lists) (st : Ruled) → ruledFrom kind ms h p st rs ≡ ruledFrom kind ms h p st (map objectLists rs)
+    unfolding ruledFrom
+    ruled-object [] st = refl
+    ruled-object (r ∷ rs) st =
+        ruled-object rs (judgedBy kind ms h p st r)
+        ∙ ap (λ (x : Ruled). ruledFrom kind ms h p x (map objectLists rs)) (judged-object st r)
+
+confinement-object : (kind : ℕ) (t : Token) (owner self : List ℕ) (d : Dacl) →
+    confinementOf kind t owner self d ≡ confinementOf kind t owner self (objectList d)
+unfolding confinementOf
+confinement-object kind t owner self d = rw (gives-object kind (confinedOf t) (hitsOf (confinedOf t) owner self) d)
+
+found-object : (kind : ℕ) (t : Token) (owner self : List ℕ) (d : Dacl) (rs : List Lists) →
+    foundOf kind t owner self d rs ≡ foundOf kind t owner self (objectList d) (map objectLists rs)
+unfolding foundOf
+found-object kind t owner self d rs =
+    let h = hitsOf (crowdOf t) owner self in
+    let ruled = ruled-object kind (crowdOf t) h (t .privileges) rs in
+    rw (normal-object kind (crowdOf t) h (t .privileges) d, confinement-object kind t owner self d, ruled _)
+
+pub answer-object : (q : Question) → Accepted q → checked q ≡ byObject q
+answer-object q a =
+    accepted-is q a
+    ∙ ap (answerOf (q .kind) (q .mask))
+    (found-object (q .kind) (tokenIn q) (ownerOf (q .descriptor)) (q .self) (daclIn (q .descriptor)) (rulesOf (q .policy)))
