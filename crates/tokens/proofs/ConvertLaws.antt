@@ -30,21 +30,22 @@ use Rattle.tokens.proofs.JudgePeople.{listing-cut}
 
 -- ---- what was unpacked, judged
 
--- what was written lies in the buffer
-pub unpacked-inside : (q : Read Token) (entry exit : List ℕ) (n : ℕ) → Unpacked q entry exit n → n ≤ length entry → n ≤ length exit
-unpacked-inside none entry exit n u h = omega (arith, u .0)
-unpacked-inside (some t end) entry exit n u h =
+-- what lies in the buffer had room there
+unpacked-room : (t : Token) (end : ℕ) (entry exit : List ℕ) (n : ℕ) → Unpacked (some t end) entry exit n → n ≤ length exit →
+    n ≤ length entry
+unpacked-room t end entry exit n u h =
     let l : length exit ≡ length entry = ap length (u .1) ∙ length-sets entry 0 (listingOf t) in
     omega arith
 
-module _ (s entry exit : List ℕ) (n : ℕ) (bytes : T (areBytes s)) (room : n ≤ length entry) where
+module _ (s entry exit : List ℕ) (n : ℕ) (bytes : T (areBytes s)) (room : n ≤ length exit) where
   judged-go : (q : Read Token) → readRecord s ≡ q → Unpacked q entry exit n → judgedOf (readListing (part exit 0 n)) ≡ judgedOf q
   unfolding judgedOf
   judged-go none e u =
       let z : part exit 0 n ≡ [] = part-front exit n ∙ ap (λ (k : ℕ). take k exit) (u .0) in
       rw (z, listing-cut [] (omega arith))
   judged-go (some t end) e u =
-      let w : part exit 0 n ≡ listingOf t = part-front exit n ∙ sets-front entry exit (listingOf t) n (u .0) (u .1) room in
+      let r = unpacked-room t end entry exit n u room in
+      let w : part exit 0 n ≡ listingOf t = part-front exit n ∙ sets-front entry exit (listingOf t) n (u .0) (u .1) r in
       let l = listing-back t (record-form s t end bytes e .1) in
       rw (w, l)
 
@@ -81,7 +82,7 @@ judged-taken (some t end) h = test (keeps t) refl
     test true k = record { token = t; end = end; read = refl; kept = k }
     test false k = let z : _≡_ {A = ℕ} 4 0 = rw k at h in absurd (omega arith)
 
-module _ (s entry exit : List ℕ) (n : ℕ) (j : Judged) (bytes : T (areBytes s)) (room : n ≤ length entry)
+module _ (s entry exit : List ℕ) (n : ℕ) (j : Judged) (bytes : T (areBytes s)) (room : n ≤ length exit)
     (unpacked : Unpacked (readRecord s) entry exit n) (is : j ≡ judgedOf (readListing (part exit 0 n))) where
   judged-is : j ≡ judgedOf (readRecord s)
   judged-is = is ∙ unpacked-judged s entry exit n bytes room unpacked
@@ -105,12 +106,13 @@ module _ (s entry exit : List ℕ) (n : ℕ) (j : Judged) (bytes : T (areBytes s
   listed-taken h =
       let t = judged-taken (readRecord s) (sym status-is ∙ h) in
       let u : Unpacked (some (t .token) (t .end)) entry exit n = rw (t .read) at unpacked in
+      let r = unpacked-room (t .token) (t .end) entry exit n u room in
       let c : asListing s ≡ result (listingOf (t .token)) = converted-kept listingOf (readRecord s) (t .token) (t .end) (t .read)
       (t .kept) in
       record {
         status = sym (ap (λ (x : Conversion). x .status) c);
         long = u .0 ∙ sym (ap (λ (x : Conversion). length (x .bytes)) c);
-        bytes = sets-front entry exit (listingOf (t .token)) n (u .0) (u .1) room ∙ sym (ap (λ (x : Conversion). x .bytes) c);
+        bytes = sets-front entry exit (listingOf (t .token)) n (u .0) (u .1) r ∙ sym (ap (λ (x : Conversion). x .bytes) c);
         place = ap (λ (x : Judged). x .«confined_at») judged-is;
       }
 

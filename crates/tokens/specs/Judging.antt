@@ -13,6 +13,7 @@ use Rattle.records.specs.Crowd.{confinedPlace}
 use Rattle.records.specs.TokenRules.{virtualIn, lists, allRestricted, keeps}
 use Rattle.records.specs.TokenRecord.{readRecord}
 use Rattle.records.specs.Converters.{asListing}
+use Rattle.tokens.specs.declared.flat.Extent.{Extent}
 use Rattle.tokens.specs.declared.flat.Listing.{Listing}
 use Rattle.tokens.specs.declared.judging.Judged.{Judged}
 use Rattle.tokens.specs.declared.judging.Walk.{Walk}
@@ -60,3 +61,7 @@ pub record Listed (s : List ℕ) (r : Listing) : Type 0 where
   pub long : r .length ≡ length (asListing s .bytes)
   pub bytes : take (r .length) (r .bytes) ≡ asListing s .bytes
   pub place : r .«confined_at» ≡ judgedOf (readRecord s) .«confined_at»
+
+-- the same in a room that was lent: an extent and its room, as a listing
+abbrev pub listingIn : Extent → List ℕ → Listing
+listingIn e room = record { status = e .status; length = e .length; «confined_at» = e .«confined_at»; bytes = room }

@@ -5,7 +5,7 @@ ghost use lib.ListN.{length};
 ghost use lib.Seq.{sets};
 ghost use Rattle.records.specs.Converters.{asListing, fitted};
 ghost use Rattle.tokens.specs.Answers.{answered};
-ghost use Rattle.tokens.specs.Judging.{Listed};
+ghost use Rattle.tokens.specs.Judging.{Listed, listingIn};
 use crate::Converted;
 use crate::judging::judge;
 
@@ -18,26 +18,47 @@ pub struct Listing {
     pub bytes: [u8; 22940],
 }
 
+// The same of a listing in a room that is lent.
+pub struct Extent {
+    pub status: u32,
+    pub length: usize,
+    pub confined_at: usize,
+}
+
+// Lists a packed record at the front of `room`. On refusal length and place are 0; what `room` then
+// holds is not said, nor what stands in it behind a listing.
+fn list_in(s: &[u8], room: &mut [u8; 22940]) -> Extent
+    ensures { λ r. ⌜ Listed (now (s .entry)) (listingIn r (now (room .exit))) ⌝ }
+    ensures { λ r. ⌜ (r .length ≤ 22940) × (r .«confined_at» ≤ r .length) ⌝ }
+{
+    let n = records::unpack(s, room);
+    let all = &room[..];
+    let j = judge(&all[0..n]);
+    if j.status != 0 {
+        return Extent {
+            status: j.status,
+            length: 0,
+            confined_at: 0,
+        };
+    }
+    Extent {
+        status: 0,
+        length: n,
+        confined_at: j.confined_at,
+    }
+}
+
 // The listing of a packed record.
 pub fn listing_of(s: &[u8]) -> Listing
     ensures { λ r. ⌜ Listed (now (s .entry)) r ⌝ }
     ensures { λ r. ⌜ (r .length ≤ 22940) × (r .«confined_at» ≤ r .length) ⌝ }
 {
     let mut bytes = [0u8; 22940];
-    let n = records::unpack(s, &mut bytes);
-    let j = judge(&bytes[0..n]);
-    if j.status != 0 {
-        return Listing {
-            status: j.status,
-            length: 0,
-            confined_at: 0,
-            bytes,
-        };
-    }
+    let e = list_in(s, &mut bytes);
     Listing {
-        status: 0,
-        length: n,
-        confined_at: j.confined_at,
+        status: e.status,
+        length: e.length,
+        confined_at: e.confined_at,
         bytes,
     }
 }
@@ -60,18 +81,18 @@ pub fn to_listing(s: &[u8], out: &mut [u8]) -> Converted
     ensures { λ r. ⌜ r ≡ answered (fitted (length (now (out .entry))) (asListing (now (s .entry)))) ⌝ }
     ensures { λ r. ⌜ now (out .exit) ≡ sets (now (out .entry)) 0 (fitted (length (now (out .entry))) (asListing (now (s .entry))) .bytes) ⌝ }
 {
-    let l = listing_of(s);
-    let n = l.length;
+    let mut bytes = [0u8; 22940];
+    let e = list_in(s, &mut bytes);
+    let n = e.length;
     if out.len() < n {
         return Converted {
             status: 11,
             length: 0,
         };
     }
-    let bytes = l.bytes;
     copy(&bytes[0..n], out);
     Converted {
-        status: l.status,
+        status: e.status,
         length: n,
     }
 }
