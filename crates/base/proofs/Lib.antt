@@ -19,5 +19,7 @@ pub mod BitLaws
 pub mod BitsLaws
 -- a number in sevens, byte by byte
 pub mod SevensSteps
+-- a number of more than one byte, group by group
+pub mod LongerLaws
 -- a number in sevens, written and read back
 pub mod SevensLaws

@@ -1,10 +1,11 @@
--- What the number at a place is, by the byte that stands there. Over every width; for `number_at` and its callers.
+-- What the number at a place is, by the byte that stands there. Over every width; for `number_at`, for the loop of `longer` (LongerLaws),
+-- and for what is written and read back (SevensLaws).
 -- In order: within the width (within-fits within-wide), a group below what follows (long-more carry-more), the number at a place by its
--- first byte (number-out number-last number-long number-carry), what a number that was found says (number-found), and the bounds of a
--- reading as the code answers it (num-bounds num-answer).
--- Not here: what is written and read back, SevensLaws. Assumes nothing.
+-- first byte (above above-none above-some number-out number-last number-alone number-long number-carry), what a number that was found says
+-- (number-found), and the bounds of a reading as the code answers it (num-bounds num-answer).
+-- Assumes nothing.
 use Prim.Native.Nat.{ℕ, suc, _+_, _-_, _*_, _^_, _<_, _≤_}
-use mathlib.Core.Path.{_≡_, refl, sym, ap, _∙_}
+use mathlib.Core.Path.{_≡_, refl, sym, ap, ap₂, _∙_}
 use mathlib.Core.List.{List, [], _∷_}
 use mathlib.Core.Bool.{Bool, true, false, cond}
 use native.Mathlib.Numerals.{add-one}
@@ -32,7 +33,7 @@ within-wide bits v n h = rw (le-ltb v (2 ^ bits) h)
 -- ---- a group g below what follows
 
 -- 2 ^ bits is 128 times 2 ^ (bits - 7)
-pub pow-split : (bits : ℕ) → 7 ≤ bits → 2 ^ bits ≡ 128 * 2 ^ (bits - 7)
+pow-split : (bits : ℕ) → 7 ≤ bits → 2 ^ bits ≡ 128 * 2 ^ (bits - 7)
 pow-split bits h = let e : bits ≡ 7 + (bits - 7) = omega arith in ap (λ (n : ℕ). 2 ^ n) e ∙ pow-add 2 7 (bits - 7)
 
 pub long-more : (bits g : ℕ) (r : Read ℕ) → bits ≤ 7 → within bits (more g r) ≡ none
@@ -68,25 +69,25 @@ carry-more bits g (some v n) h k = go (eqb v 0) refl (ltb v (2 ^ (bits - 7))) re
 
 -- ---- the number at a place, by its first byte
 
--- what the code makes of a group and the answer for what follows
-abbrev pub carried : ℕ → Num → Num
-carried g r = cond (eqb (r .value) 0) (numOf none) (record { ok = true; value = g + 128 * r .value; next = r .next })
+-- what the code makes of groups of k bits and the answer for what follows
+abbrev pub above : ℕ → ℕ → Num → Num
+above v k r = cond (eqb (r .value) 0) (numOf none) (record { ok = true; value = v + r .value * 2 ^ k; next = r .next })
 
-pub carried-none : (g : ℕ) (r : Num) → r .value ≡ 0 → carried g r ≡ numOf none
-carried-none g r h = rw (eq-eqb (r .value) 0 h)
+pub above-none : (v k : ℕ) (r : Num) → r .value ≡ 0 → above v k r ≡ numOf none
+above-none v k r h = rw (eq-eqb (r .value) 0 h)
 
-pub carried-some : (g : ℕ) (r : Num) → (r .value ≡ 0 → ⊥) → carried g r ≡ record { ok = true; value = g + 128 * r .value; next = r .next }
-carried-some g r h = rw (ne-eqb (r .value) 0 h)
+pub above-some : (v k : ℕ) (r : Num) → (r .value ≡ 0 → ⊥) → above v k r ≡ record { ok = true; value = v + r .value * 2 ^ k; next = r .next }
+above-some v k r h = rw (ne-eqb (r .value) 0 h)
 
-placed-more : (at g : ℕ) (r : Read ℕ) → numOf (placed at (more g r)) ≡ carried g (numOf (placed (at + 1) r))
+placed-more : (at g : ℕ) (r : Read ℕ) → numOf (placed at (more g r)) ≡ above g 7 (numOf (placed (at + 1) r))
 unfolding numOf placed more
 placed-more at g none = refl
 placed-more at g (some v n) = go (eqb v 0)
   where
     go : (t : Bool) → numOf (placed at (cond t none (some (g + 128 * v) (n + 1)))) ≡
-        cond t (numOf none) (record { ok = true; value = g + 128 * v; next = at + 1 + n })
+        cond t (numOf none) (record { ok = true; value = g + v * 2 ^ 7; next = at + 1 + n })
     go true = refl
-    go false = let e : at + (n + 1) ≡ at + 1 + n = omega arith in rw e
+    go false = ap₂ (λ (x y : ℕ). numOf (some x y)) (omega arith) (omega arith)
 
 placed-within : (bits at v n : ℕ) → placed at (within bits (some v n)) ≡ within bits (some v (at + n))
 unfolding placed within
@@ -105,13 +106,20 @@ module _ (bits : ℕ) (s : List ℕ) (at : ℕ) (inside : at < length s) where
   unfolding number groups
   number-last h = rw (drop-cons s at 0, lt-ltb (getD s at 0) 128 h) (placed-within bits at (getD s at 0) 1)
 
+  -- a number of one byte
+  pub number-alone : getD s at 0 < 128 → 7 ≤ bits → number bits s at ≡ some (getD s at 0) (at + 1)
+  unfolding within
+  number-alone h k =
+      let p : 2 ^ 7 ≤ 2 ^ bits = pow-mono k in
+      number-last h ∙ rw (lt-ltb (getD s at 0) (2 ^ bits) (omega arith))
+
   pub number-long : 128 ≤ getD s at 0 → bits ≤ 7 → number bits s at ≡ none
   unfolding number groups placed
   number-long h k =
       rw (drop-cons s at 0, le-ltb (getD s at 0) 128 h, long-more bits (getD s at 0 - 128) (groups (drop (suc at) s)) k)
 
   pub number-carry : 128 ≤ getD s at 0 → getD s at 0 < 256 → 7 < bits →
-      numOf (number bits s at) ≡ carried (getD s at 0 - 128) (numOf (number (bits - 7) s (at + 1)))
+      numOf (number bits s at) ≡ above (getD s at 0 - 128) 7 (numOf (number (bits - 7) s (at + 1)))
   unfolding number groups
   number-carry h h′ k =
       let e : drop at s ≡ getD s at 0 ∷ drop (at + 1) s = rw (add-one, drop-cons s at 0) in

@@ -3,6 +3,7 @@
 ghost use mathlib.Core.Path.{_≡_};
 ghost use Prim.Native.Nat.{_≤_, _<_, _^_};
 ghost use lib.ListN.{length};
+ghost use Rattle.base.specs.Bytes.{byteAt};
 ghost use Rattle.base.specs.Bytes.Read.{none, some};
 ghost use Rattle.base.specs.Sevens.{number, numOf, within};
 use crate::bytes::wide;
@@ -27,12 +28,11 @@ fn none() -> Num
 
 // `value` with the place after it, where it is within `bits` bits.
 fn within(value: u64, next: usize, bits: u32) -> Num
+    requires { ⌜ bits < 64 ⌝ }
     ensures { λ r. ⌜ r ≡ numOf (within bits (some value next)) ⌝ }
 {
-    if bits < 64 {
-        if (1u64 << bits) <= value {
-            return none();
-        }
+    if (1u64 << bits) <= value {
+        return none();
     }
     Num {
         ok: true,
@@ -41,32 +41,60 @@ fn within(value: u64, next: usize, bits: u32) -> Num
     }
 }
 
-// The number that starts at `at`, in at most `bits` bits. What follows a group that is not the last
-// may not be 0; where nothing that counts follows, its value is 0 too.
+// The number that starts at `at` with a group that is not the last. `value` is the groups before
+// `place`, `shift` bits of them; what stands there may not be 0 if it is the last.
+fn longer(s: &[u8], at: usize, bits: u32) -> Num
+    requires { ⌜ (7 < bits) × (bits ≤ 64) × (at < length (now s)) × (128 ≤ byteAt (now s) at) ⌝ }
+    ensures { λ r. ⌜ r ≡ numOf (number bits (now (s .entry)) at) ⌝ }
+{
+    let mut value = wide(s[at]) as u64 - 128;
+    let mut shift: u32 = 7;
+    let mut place = at + 1;
+    loop {
+        if s.len() <= place {
+            return none();
+        }
+        let b = wide(s[place]) as u64;
+        let left = bits - shift;
+        if b < 128 {
+            let high = within(b, place + 1, left);
+            if high.value == 0 {
+                return none();
+            }
+            return Num {
+                ok: true,
+                value: value + (high.value << shift),
+                next: high.next,
+            };
+        }
+        if left <= 7 {
+            return none();
+        }
+        value += (b - 128) << shift;
+        shift += 7;
+        place += 1;
+    }
+}
+
+// The number that starts at `at`, in at most `bits` bits. Nearly all take one byte: that is the
+// short way.
 fn number_at(s: &[u8], at: usize, bits: u32) -> Num
-    requires { ⌜ bits ≤ 64 ⌝ }
+    requires { ⌜ (7 < bits) × (bits ≤ 64) ⌝ }
     ensures { λ r. ⌜ r ≡ numOf (number bits (now (s .entry)) at) ⌝ }
     ensures { λ r. ⌜ (r .value < 2 ^ bits) × (r .next ≤ length (now (s .entry))) ⌝ }
 {
     if s.len() <= at {
         return none();
     }
-    let b = wide(s[at]) as u64;
-    if b < 128 {
-        return within(b, at + 1, bits);
+    let first = wide(s[at]) as u64;
+    if first < 128 {
+        return Num {
+            ok: true,
+            value: first,
+            next: at + 1,
+        };
     }
-    if bits <= 7 {
-        return none();
-    }
-    let high = number_at(s, at + 1, bits - 7);
-    if high.value == 0 {
-        return none();
-    }
-    Num {
-        ok: true,
-        value: (b - 128) + 128 * high.value,
-        next: high.next,
-    }
+    longer(s, at, bits)
 }
 
 // The number that starts at `at`, in at most 32 bits; as all three, none where it is cut short, in

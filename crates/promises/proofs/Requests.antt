@@ -5,15 +5,23 @@
 -- `current` and `stepped` (reader/specs/Reading.antt); `ReadTheSame` (demands/specs/LongEntries.antt); `namesOwner`, whether a list takes
 -- the owner's two rights away, `listGives`, what it allows by itself, `normalOf`, what normal evaluation gives with it
 -- (passes/specs/NormalEvaluation.antt); `OwnerEntry`, `GoesBy`, `OwnerAsks`, `ownersRights`, `itsList`, `byObject`
--- (demands/specs/OwnerEntries.antt). Assumes nothing.
-use Prim.Native.Nat.{ℕ, _<_}
+-- (demands/specs/OwnerEntries.antt); `number`, a number of at most so many bits at a place with the place after it, or none
+-- (base/specs/Sevens.antt). Assumes nothing.
+use Prim.Native.Nat.{ℕ, _+_, _<_, _≤_}
 use mathlib.Core.Path.{_≡_}
 use mathlib.Core.List.{List}
 use mathlib.Core.Bool.{true}
 use mathlib.Core.Logic.{_↔_}
-use lib.ListN.{take}
+use lib.ListN.{length, take}
 use Rattle.base.specs.Bits.{and, Within}
 use Rattle.base.specs.Bytes.{byteAt, u16At}
+use Rattle.base.specs.Bytes.Read.{some}
+use Rattle.base.specs.Sevens.{number}
+use Rattle.base.proofs.number32 as number32
+use Rattle.base.proofs.number48 as number48
+use Rattle.base.proofs.number64 as number64
+use Rattle.base.proofs.SevensSteps as steps
+use Rattle.base.proofs.LongerLaws as longer
 use Rattle.lists.specs.Acl.{Entry, entryEnd, scanOf, entriesOf}
 use Rattle.lists.specs.Spare.{LongEnough, saidAt, SameButSpare}
 use Rattle.lists.specs.declared.acl.Scan.the-variants.{Plain}
@@ -85,3 +93,18 @@ list-loses = owners-rights.list-loses
 -- "An inherit-only entry says nothing about the object itself": all three answers are those of the lists without such entries
 pub children-apart : (q : Question) → Accepted q → checked q ≡ byObject q
 children-apart = object-lists.answer-object
+
+-- ---- #104 Faster one-byte numbers. "What it answers, refusals included, does not change."
+-- Of its three doors, for 32, 48 and 64 bits: for all lent bytes each ends, is safe, and answers `number` of its width (base/src/sevens.rt)
+pub doors-met : {M : Type 1} → number32.Statement.statement M × number48.Statement.statement M × number64.Statement.statement M
+doors-met = (number32.Met.met, number48.Met.met, number64.Met.met)
+
+-- A byte below 128 is a number by itself, in every width of seven bits or more, and the next number begins behind it
+pub one-byte : (bits : ℕ) (s : List ℕ) (at : ℕ) → at < length s → byteAt s at < 128 → 7 ≤ bits →
+    number bits s at ≡ some (byteAt s at) (at + 1)
+one-byte = steps.number-alone
+
+-- Any other byte is no number by itself: a number that begins with one takes more bytes, and is 128 or more, so that no longer form of a
+-- one-byte number is read
+pub more-bytes : (bits : ℕ) (s : List ℕ) (at v n : ℕ) → 128 ≤ byteAt s at → number bits s at ≡ some v n → (128 ≤ v) × (at + 1 < n)
+more-bytes = longer.longer-found

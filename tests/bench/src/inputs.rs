@@ -1,7 +1,7 @@
 //! What is timed. All identities have one word and differ in it alone, so that a comparison has
 //! to look at their last bytes, and 3,000 entries of 20 bytes fit a descriptor.
 
-use pirasteh_cases::make::{self, acl, long_entry, policy, sid, Descriptor, Rule, Token};
+use pirasteh_cases::make::{acl, long_entry, policy, sid, Descriptor, Rule, Token};
 
 pub struct Input {
     pub entries: usize,
@@ -118,16 +118,4 @@ impl Input {
             identity_sids: people,
         }
     }
-}
-
-/// The largest token that keeps the rules, as record and listing.
-pub fn largest_token() -> (Vec<u8>, Vec<u8>) {
-    let long = sid(0xFFFF_FFFF_FFFF, &[u32::MAX; 15]);
-    let mut token = Token::of(&long).privileges(u64::MAX);
-    token.groups = vec![(long.clone(), u32::MAX); 256];
-    token.flags = 1;
-    let mut capabilities = vec![long.clone(); 64];
-    capabilities[63] = make::sid(15, &[2, 2]);
-    token.confinement = Some((long, capabilities));
-    (token.record(), token.listing())
 }

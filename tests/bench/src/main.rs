@@ -5,15 +5,16 @@
 //! Each figure is the best of several runs, and library and plain take turns. Nothing passes or
 //! fails by its time; the only thing that fails is an answer that differs.
 
+mod conversions;
 mod inputs;
 mod plain;
 mod timing;
 
 use inputs::Input;
-use pirasteh::{Descriptor, Kind, Listing, Policy, Question, SelfId, Token};
+use pirasteh::{Descriptor, Kind, Policy, Question, SelfId, Token};
 use std::hint::black_box;
 use std::process::exit;
-use timing::{best, Timed};
+use timing::{best, keep};
 
 fn main() {
     println!("Microseconds for all calls of a row, best of {} runs.", timing::RUNS);
@@ -22,6 +23,7 @@ fn main() {
     println!("match: no entry names the asker, or the first one does and allows everything.");
     println!("spare: none does, and each entry has so many spare bytes behind its SID.");
     println!("owner: all name S-1-3-4 with these flags, on an object of the asker's if 0x08.");
+    println!("memcpy: what a conversion writes, copied once; nothing is read or judged.");
     println!();
     heading("match");
     for entries in [8, 500, 3000] {
@@ -52,7 +54,7 @@ fn main() {
         row(&input, 1);
     }
     println!();
-    conversions();
+    conversions::rows();
 }
 
 fn heading(third: &str) {
@@ -103,11 +105,6 @@ fn same_answers(input: &Input) {
     }
 }
 
-/// The compiler may not see that a result is not used.
-fn keep<T>(result: T) {
-    black_box(result);
-}
-
 fn row(input: &Input, calls: usize) {
     let masks = &input.masks[..calls];
     let mut ask_library = || masks.iter().for_each(|&m| keep(library(black_box(input), m)));
@@ -140,40 +137,4 @@ fn row(input: &Input, calls: usize) {
 /// Every entry's SID against every identity, by slice comparison, until one is equal.
 fn compare_only(entries: &[&[u8]], identities: &[&[u8]]) -> usize {
     entries.iter().filter(|sid| identities.contains(sid)).count()
-}
-
-fn conversions() {
-    let (record, listing) = inputs::largest_token();
-    let mut out = vec![0; pirasteh::RECORD_MAX];
-    let mut other = out.clone();
-    let lengths = (pirasteh::list(Token(&record), &mut out), plain::list(&record, &mut other));
-    let there = lengths == (Ok(listing.len()), Ok(listing.len())) && out == other;
-    let lengths = (pirasteh::pack(Listing(&listing), &mut out), plain::pack(&listing, &mut other));
-    if !there || lengths != (Ok(record.len()), Ok(record.len())) || out != other {
-        println!("conversions differ: {lengths:?}");
-        exit(1);
-    }
-    println!(
-        "{:38} {:>12} {:>12} {:>7} {:>12}",
-        "largest token", "library", "plain", "ratio", "memcpy"
-    );
-    let mut third = out.clone();
-    {
-        let [library, plain, copy] = best([
-            &mut || keep(pirasteh::list(Token(black_box(&record)), &mut out)),
-            &mut || keep(plain::list(black_box(&record), &mut other)),
-            &mut || third[..listing.len()].copy_from_slice(black_box(&listing)),
-        ]);
-        line(&format!("list, {} to {} bytes", record.len(), listing.len()), library, plain, copy);
-    }
-    let [library, plain, copy] = best([
-        &mut || keep(pirasteh::pack(Listing(black_box(&listing)), &mut out)),
-        &mut || keep(plain::pack(black_box(&listing), &mut other)),
-        &mut || third[..record.len()].copy_from_slice(black_box(&record)),
-    ]);
-    line(&format!("pack, {} to {} bytes", listing.len(), record.len()), library, plain, copy);
-}
-
-fn line(what: &str, library: Timed, plain: Timed, copy: Timed) {
-    println!("{what:38} {library:>12} {plain:>12} {:>7} {copy:>12}", library.ratio(plain));
 }

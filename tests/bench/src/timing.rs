@@ -1,6 +1,7 @@
 //! Best of several runs, in which the candidates take turns.
 
 use std::fmt;
+use std::hint::black_box;
 use std::time::{Duration, Instant};
 
 pub const RUNS: u32 = 7;
@@ -38,6 +39,11 @@ pub fn best<const N: usize>(mut candidates: [&mut dyn FnMut(); N]) -> [Timed; N]
         }
     }
     least.map(Timed)
+}
+
+/// The compiler may not see that a result is not used.
+pub fn keep<T>(result: T) {
+    black_box(result);
 }
 
 fn time(work: &mut &mut dyn FnMut(), repeats: u32) -> Duration {

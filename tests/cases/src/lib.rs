@@ -6,6 +6,7 @@ mod children;
 mod damage;
 pub mod hex;
 pub mod make;
+pub mod numbers;
 mod people;
 pub mod random;
 mod rng;

@@ -4,6 +4,7 @@
 use crate::children;
 use crate::damage;
 use crate::make::{self, Question, Token};
+use crate::numbers;
 use crate::people::{self, People};
 use crate::rng::Rng;
 use crate::spare;
@@ -36,9 +37,16 @@ impl Room {
     }
 }
 
+/// One case in so many is about numbers. By its own number, so that all others are what they were
+/// without.
+const NUMBERS: u64 = 8;
+
 /// Case `number` under `seed`.
 pub fn case(seed: u64, number: u64) -> Case {
     let rng = &mut Rng::new(seed, number);
+    if number % NUMBERS == NUMBERS - 1 {
+        return numbers::case(rng, number / NUMBERS);
+    }
     match rng.below(20) {
         0..=11 => Case::Check(question(rng)),
         12..=14 => Case::File(file(rng)),

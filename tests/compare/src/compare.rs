@@ -4,9 +4,11 @@
 use crate::children;
 use crate::fence;
 use crate::library::{Library, Said};
+use crate::numbers;
 use crate::spare;
 use pirasteh_cases::hex;
 use pirasteh_cases::make::Question;
+use pirasteh_cases::numbers::Place;
 use pirasteh_cases::random::{self, Case};
 use pirasteh_cases::Rng;
 use pirasteh_reference as reference;
@@ -29,7 +31,7 @@ const STATUS: [&str; 13] = [
     "question file",
 ];
 
-/// What has to be reached besides, and all of `children::ROWS`.
+/// What has to be reached besides, and all of `children::ROWS` and of `numbers::Table`.
 const REACHED: [&str; 10] = [
     "accepted, with spare bytes in an entry of the descriptor's DACL",
     "accepted, with spare bytes in an entry of an effective DACL",
@@ -54,6 +56,7 @@ struct Tally {
     status: [u64; 13],
     reached: [u64; 10],
     children: children::Table,
+    numbers: numbers::Table,
     checks: u64,
     files: u64,
     records: u64,
@@ -123,6 +126,7 @@ fn compare(
             tally.checks += 1;
             tally.answer(&expected);
             tally.reach(q, &expected);
+            tally.numbers.record(Place::Token, &q.token, expected.err());
             same(expected, library.check(q, dice))?;
             match expected {
                 Ok(answer) => once_more(library, q, answer, rng, tally),
@@ -133,6 +137,7 @@ fn compare(
             let expected = reference::question(file);
             tally.files += 1;
             tally.answer(&expected);
+            tally.numbers.file(file, expected.err());
             same(expected, library.question(file, dice))
         }
         Case::List(record, room) => {
@@ -141,6 +146,7 @@ fn compare(
             let expected = lent(result, room);
             tally.records += 1;
             tally.status(expected.as_ref().err());
+            tally.numbers.record(Place::Record, record, expected.as_ref().err().copied());
             same(expected.clone(), library.list(record, room, dice))?;
             match expected {
                 // And the way back, into a buffer of just the right length.
@@ -294,6 +300,7 @@ impl Tally {
                 all.push(format!("decided by entries for S-1-3-4 in {list}: {row}"));
             }
         }
+        all.extend(self.numbers.unreached());
         all
     }
 
@@ -317,5 +324,6 @@ impl Tally {
         for ([descriptor, effective, staged], name) in self.children.iter().zip(children::ROWS) {
             println!("  {descriptor:9} {effective:9} {staged:9}  {name}");
         }
+        self.numbers.print();
     }
 }

@@ -10,6 +10,7 @@ mod compare;
 mod fence;
 mod library;
 mod lists;
+mod numbers;
 mod spare;
 mod vectors;
 

@@ -5,6 +5,7 @@
 
 use pirasteh::{Error, Listing, Token};
 use pirasteh_cases::hex;
+use pirasteh_cases::make::{self, Question};
 use pirasteh_reference as reference;
 use std::collections::BTreeMap;
 use std::fs;
@@ -87,7 +88,9 @@ fn run_case(fields: &Fields) -> Result<(), String> {
                 fields["refused"],
                 |out| pirasteh::list(Token(&record), out),
                 reference::list(&record),
-            )
+            )?;
+            let file = with_token(&record, &[&make::sid(5, &[])]);
+            ask(&file, &format!("refused {}", fields["refused"]))
         }
         ["listing", "refused"] => {
             let listing = bytes(fields["listing"])?;
@@ -127,7 +130,40 @@ fn convert(record: &[u8], listing: &[u8]) -> Result<(), String> {
         return Err("reference packs the listing otherwise".into());
     }
     converts("lists the record", |out| pirasteh::list(Token(record), out), listing)?;
-    converts("packs the listing", |out| pirasteh::pack(Listing(listing), out), record)
+    converts("packs the listing", |out| pirasteh::pack(Listing(listing), out), record)?;
+    let file = with_token(record, &who(listing));
+    ask(&file, &reference::line(&reference::question(&file)))
+}
+
+/// The user of a listing and, if it is confined, its confinement identity.
+fn who(listing: &[u8]) -> Vec<&[u8]> {
+    let sid = |at: usize| &listing[at..at + 8 + 4 * usize::from(listing[at + 1])];
+    let user = sid(12);
+    let groups = 12 + user.len();
+    let mut at = groups + 4;
+    for _ in 0..u16::from_le_bytes([listing[groups], listing[groups + 1]]) {
+        at += sid(at).len() + 4;
+    }
+    if listing[0] & 1 == 0 {
+        vec![user]
+    } else {
+        vec![user, sid(at)]
+    }
+}
+
+/// The record once more, as the token of a question about an object of the first of these, whose
+/// list names them all: there it is refused with the same number, or the answer shows who was read.
+fn with_token(record: &[u8], who: &[&[u8]]) -> Vec<u8> {
+    let list: Vec<Vec<u8>> = who.iter().map(|sid| make::allow(1, sid)).collect();
+    Question {
+        kind: 1,
+        mask: 1,
+        token: record.to_vec(),
+        self_id: vec![],
+        descriptor: make::Descriptor::owned_by(who[0]).dacl(&make::acl(&list)).bytes(),
+        policy: vec![],
+    }
+    .file()
 }
 
 type Conversion<'a> = &'a dyn Fn(&mut [u8]) -> Result<usize, Error>;

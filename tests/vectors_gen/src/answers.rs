@@ -4,6 +4,7 @@
 mod children;
 mod confinement;
 mod identities;
+mod numbers;
 mod rights;
 mod walks;
 
@@ -28,5 +29,6 @@ pub fn cases() -> Vec<Case> {
     all.extend(children::cases());
     all.extend(walks::cases());
     all.extend(confinement::cases());
+    all.extend(numbers::cases());
     all
 }

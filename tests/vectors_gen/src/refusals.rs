@@ -1,5 +1,7 @@
 //! Each refusal but 11, from both sides, and which of two is given.
 
+mod numbers;
+
 use crate::case::*;
 use pirasteh_cases::hex;
 use pirasteh_cases::make::{self, acl, allow, bare_entry, sid, Descriptor, Rule};
@@ -12,6 +14,7 @@ pub fn cases() -> Vec<Case> {
     all.extend(descriptor());
     all.extend(policy());
     all.extend(file());
+    all.extend(numbers::cases());
     all
 }
 

@@ -1,5 +1,7 @@
 //! Conversions, both ways.
 
+mod numbers;
+
 use crate::case::*;
 use pirasteh_cases::hex;
 use pirasteh_cases::make::{sid, Token};
@@ -33,6 +35,7 @@ pub fn cases() -> Vec<Case> {
     all.extend(accepted());
     all.extend(records());
     all.extend(listings());
+    all.extend(numbers::cases());
     all
 }
 

@@ -1,0 +1,60 @@
+-- `number_at` meets its contract: nothing beyond the end, a number of one byte by itself, a longer one by `longer`.
+-- Assumes nothing.
+use mathlib.Core.Path.{_≡_, sym, ap, _∙_}
+use native.Mathlib.Omega.{arith}
+use lib.ListN.{getD}
+use borrow.Author.Needs.{needs}
+use Rattle.base.specs.Sevens.{numOf}
+use Rattle.base.proofs.SevensSteps.{number-out, number-alone, num-answer}
+use Rattle.base.proofs.sevens.number_at.Statement.{statement}
+use Rattle.base.proofs.sevens.number_at.Tie as tie
+
+none-requires : tie.Need-none-requires
+none-requires c κs = search needs
+
+returns : tie.Need-returns
+returns c =
+    let a = c .before .before .before .args in
+    num-answer (a .bits) (a .s .now) (a .at) _ (c .none .ensures ∙ sym (ap numOf (number-out (a .bits) (a .s .now) (a .at) (omega arith))))
+
+shared-slice-read-wide : tie.Need-shared-slice-read-wide
+shared-slice-read-wide c = search needs
+
+wide-requires : tie.Need-wide-requires
+wide-requires c κs = search needs
+
+cast-first : tie.Need-cast-first
+cast-first c = search needs
+
+add-t10 : tie.Need-add-t10
+add-t10 c = search needs
+
+returns-2 : tie.Need-returns-2
+unfolding numOf
+returns-2 c =
+    let a = c .before .before .before .before .before .args in
+    let w : c .before .wide .result ≡ getD (a .s .now) (a .at) 0 = c .before .wide .ensures .0 in
+    let e = number-alone (a .bits) (a .s .now) (a .at) (omega arith) (omega arith) (omega arith) in
+    num-answer (a .bits) (a .s .now) (a .at) _ (rw w (sym (ap numOf e)))
+
+longer-requires : tie.Need-longer-requires
+longer-requires c κs = search needs
+
+returns-3 : tie.Need-returns-3
+returns-3 c =
+    let a = c .before .before .before .before .before .before .args in
+    num-answer (a .bits) (a .s .now) (a .at) _ (c .longer .ensures)
+
+pub number-at-spec : {M : Type 1} → statement M
+number-at-spec =
+    tie.close
+    (tie.spec
+    none-requires
+    returns
+    shared-slice-read-wide
+    wide-requires
+    cast-first
+    add-t10
+    returns-2
+    longer-requires
+    returns-3)
