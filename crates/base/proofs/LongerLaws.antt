@@ -31,13 +31,13 @@ beside-lt v w k n a b =
     let m : 2 ^ n * 2 ^ k ≡ 2 ^ k * 2 ^ n = mul-comm (2 ^ n) (2 ^ k) in
     omega arith
 
-module _ (bits k v w : ℕ) (narrow : bits ≤ 64) (room : k < bits) (low : v < 2 ^ k) (high : w < 2 ^ (bits - k)) where
+module _ (bits k w : ℕ) (narrow : bits ≤ 64) (room : k < bits) (high : w < 2 ^ (bits - k)) where
   -- nothing is shifted out
   pub shifted : (w * 2 ^ k) % 2 ^ 64 ≡ w * 2 ^ k
   shifted = shl-exact (bits - k) k 64 high (omega arith)
 
-  pub beside-fits : v + (w * 2 ^ k) % 2 ^ 64 < 2 ^ 64
-  beside-fits =
+  pub beside-fits : (v : ℕ) → v < 2 ^ k → v + (w * 2 ^ k) % 2 ^ 64 < 2 ^ 64
+  beside-fits v low =
       let e : k + (bits - k) ≡ bits = omega arith in
       let b : v + w * 2 ^ k < 2 ^ (k + (bits - k)) = beside-lt v w k (bits - k) low high in
       let c : v + w * 2 ^ k < 2 ^ bits = rw e at b in

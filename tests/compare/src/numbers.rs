@@ -1,7 +1,7 @@
 //! Which forms of numbers were reached, behind each door of the number reader.
 //!
-//! A good number counts where its record or question is accepted, or its file is not refused for its
-//! own shape. A bad one counts where it is the only fault: with the number for which a careless
+//! A good number counts where its record or question is accepted, or its file is not refused for
+//! its own shape. A bad one counts where it is the only fault: with the number for which a careless
 //! reader takes it, the reference does not refuse the same.
 
 mod walk;
@@ -74,8 +74,8 @@ impl Table {
         }
     }
 
-    /// Adds a record that is converted, or the token of a question. Gives the number that alone made
-    /// it be refused.
+    /// Adds a record that is converted, or the token of a question. Gives the number that alone
+    /// made it be refused.
     pub fn record(&mut self, place: Place, record: &[u8], refusal: Option<u32>) -> Option<Number> {
         let numbers = match refusal {
             None | Some(refused::TOKEN_SHAPE) => Walk::of_record(record),

@@ -49,8 +49,8 @@ impl Aim {
         }
     }
 
-    /// The bytes of this form for a number that is good. A careless reader takes those of a bad form
-    /// for the number itself, or for its lower groups.
+    /// The bytes of this form for a number that is good. A careless reader takes those of a bad
+    /// form for the number itself, or for its lower groups.
     pub fn bytes(self, rng: &mut Rng, value: u64) -> Vec<u8> {
         let (size, bits) = (self.size, self.door.bits);
         let low = |bits: usize| (1u128 << bits) - 1;

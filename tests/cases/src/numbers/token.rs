@@ -11,8 +11,8 @@ fn identity(rng: &mut Rng, words: usize) -> Vec<u8> {
     make::sid(any(rng, 48), &words)
 }
 
-/// An acceptable token, of numbers of all lengths. The last number of its record is an authority, or
-/// else a word or an attribute word.
+/// An acceptable token, of numbers of all lengths. The last number of its record is an authority,
+/// or else a word or an attribute word.
 pub fn token(rng: &mut Rng, ends_with_authority: bool) -> Token {
     let someone = |rng: &mut Rng| {
         let words = 1 + rng.below(3);

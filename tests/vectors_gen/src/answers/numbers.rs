@@ -1,5 +1,5 @@
-//! Identities and attribute words whose numbers take several bytes in the token: the answer hangs on
-//! all of them.
+//! Identities and attribute words whose numbers take several bytes in the token: the answer hangs
+//! on all of them.
 
 use crate::case::*;
 use pirasteh_cases::make::{allow, sid, Token};

@@ -1,5 +1,5 @@
-//! The numbers of a record, in each of the three widths: every length, each bit of 48 and of 32, and
-//! every form that is refused.
+//! The numbers of a record, in each of the three widths: every length, each bit of 48 and of 32,
+//! and every form that is refused.
 
 use super::{bad_record, both, made};
 use crate::case::*;
@@ -63,8 +63,8 @@ fn bits() -> Vec<Case> {
     ]
 }
 
-/// Where few bytes follow a number, or none. The last number of a record may be an authority; in the
-/// cases of `super` it is a count, a word or an attribute word.
+/// Where few bytes follow a number, or none. The last number of a record may be an authority; in
+/// the cases of `super` it is a count, a word or an attribute word.
 fn ends() -> Vec<Case> {
     let ending = |capability: Vec<u8>| tu().confined(&package(), &[&all_restricted(), &capability]);
     vec![
@@ -81,7 +81,7 @@ fn bad(reason: &str, record: &str) -> Case {
     bad_record(3, &format!("numbers: {reason}"), hex::bytes(record))
 }
 
-/// A last byte of 0, at every length to one more than the largest number has. `super` has two bytes.
+/// A last byte of 0, at every length to one more than the largest number has. Of two bytes: `super`.
 fn long_forms() -> Vec<Case> {
     let mut all = vec![
         bad("an identity's count in three bytes", "01 00 00 82 80 00 05 00 07 00"),

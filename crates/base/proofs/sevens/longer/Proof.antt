@@ -100,7 +100,7 @@ add-t23 c =
     let i = l .loop .inv in
     let r = h .within .result in
     let w = within-lt (a .bits - l .loop .shift) (b .result) (l .loop .place + 1) r (h .within .ensures) in
-    omega (arith, beside-fits (a .bits) (l .loop .shift) (l .loop .value) (r .value) (i .2) (i .1) (i .3 .low) w)
+    omega (arith, beside-fits (a .bits) (l .loop .shift) (r .value) (i .2) (i .1) w (l .loop .value) (i .3 .low))
 
 returns-3 : tie.Need-returns-3 Inv-loop μ-loop
 returns-3 c =
@@ -111,7 +111,7 @@ returns-3 c =
     let i = l .loop .inv in
     let r = h .within .result in
     let w = within-lt (a .bits - l .loop .shift) (b .result) (l .loop .place + 1) r (h .within .ensures) in
-    let e = shifted (a .bits) (l .loop .shift) (l .loop .value) (r .value) (i .2) (i .1) (i .3 .low) w in
+    let e = shifted (a .bits) (l .loop .shift) (r .value) (i .2) (i .1) w in
     rw e (sym (above-some (l .loop .value) (l .loop .shift) r (c .before .if3 .left))) ∙
     among-last (a .bits) (a .s .now) (a .at) (l .loop .value) (l .loop .shift) (l .loop .place) (i .3) (b .result) (b .ensures .0)
     (omega arith) (h .before .if2 .taken) r (h .within .ensures)
@@ -140,7 +140,7 @@ add-value c =
     let a = l .before .before .before .before .args in
     let i = l .loop .inv in
     let w = group-lt (a .bits - l .loop .shift) (b .result) (b .ensures .1) (c .if4 .left) in
-    omega (arith, beside-fits (a .bits) (l .loop .shift) (l .loop .value) (b .result - 128) (i .2) (i .1) (i .3 .low) w)
+    omega (arith, beside-fits (a .bits) (l .loop .shift) (b .result - 128) (i .2) (i .1) w (l .loop .value) (i .3 .low))
 
 add-shift : tie.Need-add-shift Inv-loop μ-loop
 add-shift c = search needs
@@ -158,7 +158,7 @@ loop-again c =
     let a = l .before .before .before .before .args in
     let i = l .loop .inv in
     let w = group-lt (a .bits - l .loop .shift) (b .result) (b .ensures .1) (c .if4 .left) in
-    let e = shifted (a .bits) (l .loop .shift) (l .loop .value) (b .result - 128) (i .2) (i .1) (i .3 .low) w in
+    let e = shifted (a .bits) (l .loop .shift) (b .result - 128) (i .2) (i .1) w in
     let n = among-next (a .bits) (a .s .now) (a .at) (l .loop .value) (l .loop .shift) (l .loop .place) (i .3) (b .result) (b .ensures .0)
     (omega arith) (c .before .if2 .left) (b .ensures .1) (c .if4 .left) in
     (omega arith, omega arith, i .2, rw e n)
