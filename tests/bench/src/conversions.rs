@@ -1,7 +1,8 @@
 //! Both converters, on records of different sizes of numbers.
 
 use crate::plain;
-use crate::timing::{best, keep};
+use crate::sheet::{heading, Sheet};
+use crate::timing::{keep, timed};
 use pirasteh::{Listing, Token};
 use pirasteh_cases::make::{self, sid};
 use std::hint::black_box;
@@ -48,11 +49,8 @@ fn largest() -> make::Token {
     token
 }
 
-pub fn rows() {
-    println!(
-        "{:54} {:>12} {:>12} {:>7} {:>12}",
-        "conversions", "library", "plain", "ratio", "memcpy"
-    );
+pub fn rows(sheet: &mut Sheet) {
+    heading("conversion");
     for input in [
         Input::of("usual, 20 groups", &usual()),
         Input::of("one-byte numbers, 20 groups", &one_byte(20)),
@@ -60,8 +58,8 @@ pub fn rows() {
         Input::of("largest", &largest()),
     ] {
         same(&input);
-        list(&input);
-        pack(&input);
+        list(sheet, &input);
+        pack(sheet, &input);
     }
 }
 
@@ -81,9 +79,10 @@ fn same(Input { name, record, listing }: &Input) {
     }
 }
 
-fn list(Input { name, record, listing }: &Input) {
+fn list(sheet: &mut Sheet, Input { name, record, listing }: &Input) {
     let [mut out, mut other, mut third] = [(); 3].map(|()| vec![0; listing.len()]);
     row(
+        sheet,
         &format!("list, {name}: {} to {} bytes", record.len(), listing.len()),
         [
             &mut || keep(pirasteh::list(Token(black_box(record)), &mut out)),
@@ -93,9 +92,10 @@ fn list(Input { name, record, listing }: &Input) {
     );
 }
 
-fn pack(Input { name, record, listing }: &Input) {
+fn pack(sheet: &mut Sheet, Input { name, record, listing }: &Input) {
     let [mut out, mut other, mut third] = [(); 3].map(|()| vec![0; record.len()]);
     row(
+        sheet,
         &format!("pack, {name}: {} to {} bytes", listing.len(), record.len()),
         [
             &mut || keep(pirasteh::pack(Listing(black_box(listing)), &mut out)),
@@ -106,7 +106,6 @@ fn pack(Input { name, record, listing }: &Input) {
 }
 
 /// The library, the plain implementation, and a bare copy of what comes out.
-fn row(what: &str, candidates: [&mut dyn FnMut(); 3]) {
-    let [library, plain, copy] = best(candidates);
-    println!("{what:54} {library:>12} {plain:>12} {:>7} {copy:>12}", library.ratio(plain));
+fn row(sheet: &mut Sheet, what: &str, candidates: [&mut dyn FnMut(); 3]) {
+    sheet.row(what, what, timed(candidates));
 }

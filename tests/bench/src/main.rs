@@ -1,140 +1,63 @@
 //! Times the library against a plain Rust implementation, on the same inputs and in one run.
 //!
-//!     bench
+//!     bench [GROUP..]
 //!
-//! Each figure is the best of several runs, and library and plain take turns. Nothing passes or
-//! fails by its time; the only thing that fails is an answer that differs.
+//! The words choose groups of rows (groups.rs); without words there are all. Each figure is the
+//! middle of several runs, in which library, plain and floor take turns. Nothing passes or fails
+//! by its time; the only thing that fails is an answer that differs.
 
+mod ask;
+mod checks;
 mod conversions;
+mod floor;
+mod groups;
+mod hard;
 mod inputs;
+mod key;
+mod large;
+mod named;
+mod people;
 mod plain;
+mod sheet;
 mod timing;
 
-use inputs::Input;
-use pirasteh::{Descriptor, Kind, Policy, Question, SelfId, Token};
-use std::hint::black_box;
+use groups::{Group, GROUPS};
+use sheet::Sheet;
 use std::process::exit;
-use timing::{best, keep};
 
 fn main() {
-    println!("Microseconds for all calls of a row, best of {} runs.", timing::RUNS);
-    println!("plain: a plain Rust implementation written for speed, tests/bench/src/plain.rs.");
-    println!("memcmp: every entry's SID against every identity by memcmp; nothing is parsed.");
-    println!("match: no entry names the asker, or the first one does and allows everything.");
-    println!("spare: none does, and each entry has so many spare bytes behind its SID.");
-    println!("owner: all name S-1-3-4 with these flags, on an object of the asker's if 0x08.");
-    println!("memcpy: what a conversion writes, copied once; nothing is read or judged.");
-    println!();
-    heading("match");
-    for entries in [8, 500, 3000] {
-        for identities in [1, 21, 257] {
-            for early in [false, true] {
-                for rules in [0, 32] {
-                    let input = Input::new(entries, identities, early, rules);
-                    same_answers(&input);
-                    for calls in [1, 40] {
-                        row(&input, calls);
-                    }
-                }
-            }
-        }
-    }
-    println!();
-    heading("spare");
-    for (entries, spare, calls) in [(500, 4, 1), (500, 4, 40), (60, 980, 1)] {
-        let input = Input::long(entries, 21, spare);
-        same_answers(&input);
-        row(&input, calls);
-    }
-    println!();
-    heading("owner");
-    for flags in [0x08, 0] {
-        let input = Input::for_owner(500, 21, flags);
-        same_answers(&input);
-        row(&input, 1);
-    }
-    println!();
-    conversions::rows();
+    let words: Vec<String> = std::env::args().skip(1).collect();
+    let groups = groups::chosen(&words).unwrap_or_else(|word| unknown(word));
+    legend();
+    let sheets: Vec<Sheet> = groups.into_iter().map(rows).collect();
+    sheet::summary(&sheets);
 }
 
-fn heading(third: &str) {
+fn unknown(word: &str) -> ! {
+    let names = GROUPS.map(|group| group.name).join(", ");
+    eprintln!("bench: there is no group of rows `{word}`; there are {names}");
+    exit(2)
+}
+
+fn legend() {
     println!(
-        "{:>7} {:>10} {third:>6} {:>6} {:>5} {:>12} {:>12} {:>7} {:>12} {:>7}",
-        "entries", "identities", "rules", "calls", "library", "plain", "ratio", "memcmp", "ratio"
+        "\
+Microseconds for all calls of a row: the middle of {} runs, and their spread, (least-most).
+plain: a plain Rust implementation written for speed, tests/bench/src/plain.rs.
+floor: a bare scan over the same bytes, nothing judged or compared: the record's bytes once,
+  each list from entry to entry by the sizes, with the last word of each entry added up, and
+  the lists in the policy's sections likewise.
+ratio: of the library's middle to that of plain Rust; to floor: to that of the floor.
+",
+        timing::RUNS
     );
 }
 
-fn library(input: &Input, mask: u32) -> Result<plain::Answer, u32> {
-    let q = Question {
-        kind: Kind::File,
-        mask,
-        token: Token(&input.token),
-        self_id: SelfId(&input.self_id),
-        descriptor: Descriptor(&input.descriptor),
-        policy: Policy(&input.policy),
-    };
-    pirasteh::check(&q)
-        .map(|a| plain::Answer { granted: a.granted, allowed: a.allowed, staged: a.staged })
-        .map_err(pirasteh::Error::number)
-}
-
-fn by_plain(input: &Input, mask: u32) -> Result<plain::Answer, u32> {
-    plain::check(1, mask, &input.token, &input.self_id, &input.descriptor, &input.policy)
-}
-
-fn same_answers(input: &Input) {
-    for &mask in &input.masks {
-        let expected = pirasteh_reference::check(
-            1,
-            mask,
-            &input.token,
-            &input.self_id,
-            &input.descriptor,
-            &input.policy,
-        )
-        .map(|a| plain::Answer {
-            granted: a.granted,
-            allowed: a.allowed,
-            staged: a.staged,
-        });
-        let (library, plain) = (library(input, mask), by_plain(input, mask));
-        if expected.is_err() || library != expected || plain != expected {
-            println!("answers differ: library {library:?}, plain {plain:?}, expected {expected:?}");
-            exit(1);
-        }
-    }
-}
-
-fn row(input: &Input, calls: usize) {
-    let masks = &input.masks[..calls];
-    let mut ask_library = || masks.iter().for_each(|&m| keep(library(black_box(input), m)));
-    let mut ask_plain = || masks.iter().for_each(|&m| keep(by_plain(black_box(input), m)));
-    // The SIDs one behind the other, as they are in a list.
-    let [entries, identities] = [input.entry_sids.concat(), input.identity_sids.concat()];
-    let [entries, identities] =
-        [&entries, &identities].map(|all| all.chunks(12).collect::<Vec<_>>());
-    let mut scan = || {
-        masks.iter().for_each(|_| keep(compare_only(black_box(&entries), black_box(&identities))))
-    };
-    let [library, plain, memcmp] = best([&mut ask_library, &mut ask_plain, &mut scan]);
-    print!(
-        "{:>7} {:>10} {:>6} {:>6} {:>5} {library:>12} {plain:>12} {:>7}",
-        input.entries,
-        input.identities,
-        input.third,
-        input.rules,
-        calls,
-        library.ratio(plain),
-    );
-    if input.early {
-        // A scan that stops at once says nothing.
-        println!(" {:>12} {:>7}", "-", "-");
-    } else {
-        println!(" {memcmp:>12} {:>7}", library.ratio(memcmp));
-    }
-}
-
-/// Every entry's SID against every identity, by slice comparison, until one is equal.
-fn compare_only(entries: &[&[u8]], identities: &[&[u8]]) -> usize {
-    entries.iter().filter(|sid| identities.contains(sid)).count()
+/// Prints the rows of a group.
+fn rows(group: &Group) -> Sheet {
+    println!("{}: {}.", group.name, group.about);
+    let mut sheet = Sheet::new(group.name);
+    (group.rows)(&mut sheet);
+    println!();
+    sheet
 }
