@@ -1,45 +1,78 @@
--- The steps of the evaluation over a listing (specs: Evaluating): what a walk over the entries that a table keeps comes to, and what is
--- found of it all.
+-- The steps of the evaluation over a listing (specs: Evaluating): whom the chains of a crowd show, what a walk with them comes to, and what
+-- is found of it all.
 -- Assumes nothing.
-use Prim.Native.Nat.{ℕ}
-use mathlib.Core.Path.{_≡_}
+use Prim.Native.Nat.{ℕ, zero, suc, _≤_}
+use mathlib.Core.Path.{_≡_, refl, ap, ap₂, _∙_}
 use mathlib.Core.List.{List}
 use mathlib.Core.Bool.{Bool, true, false}
 use lib.Bits.{bitAnd}
-use Rattle.lists.specs.Acl.{entriesOf}
+use lib.ListN.{length, getD, replicate, length-replicate}
+use Rattle.lists.specs.ByLength.{entriesByLength}
 use Rattle.lists.specs.declared.acl.Rights.{Rights}
 use Rattle.records.specs.Crowd.{Member, crowdAt}
-use Rattle.passes.specs.Matching.{hitsOf}
+use Rattle.passes.specs.Matching.{among, hitsOf}
 use Rattle.passes.specs.NormalEvaluation.{listGives, normalOf}
 use Rattle.passes.specs.Confinement.{confines, everything}
-use Rattle.passes.specs.Marks.{marksOf, kept}
+use Rattle.passes.specs.Chains.{shown, Tables, tables, chainsOf}
 use Rattle.passes.specs.OneWalk.{walkedOf, listedBy, normalBy}
 use Rattle.passes.specs.declared.matching.Hits.{Hits}
-use Rattle.passes.proofs.MarksLaws.{walked-kept}
+use Rattle.passes.specs.declared.walk.Walked.{Walked}
+use Rattle.passes.proofs.CrowdsLaws.{Alike, hits-alike, walked-alike}
+use Rattle.passes.proofs.LinkLaws.{chains-say}
 use Rattle.passes.proofs.EvaluationLaws.{listed-is, normal-is}
 use Rattle.policy.specs.Rules.{Lists, ruled, ruledBy}
-use Rattle.policy.specs.ByLengths.{keptRules}
 use Rattle.policy.specs.declared.rules.Ruled.{Ruled}
-use Rattle.policy.proofs.RulesLaws.{result-kept, ruled-kept}
+use Rattle.policy.proofs.RulesLaws.{ruled-alike}
 use Rattle.access.specs.Evaluating.{crowdIn, flagsIn, privilegesIn, daclAs, confinementIn, foundIn}
 use Rattle.access.specs.declared.answer.Found.{Found}
 
--- ---- a table of the same crowd changes no result
+-- ---- the chains of a crowd show the crowd
 
--- normal evaluation, from the walk over the entries kept
-pub normal-walked : (kind : ℕ) (present : Bool) (ms : List Member) (h : Hits) (p : ℕ) (l : List ℕ) →
-    normalBy kind present (walkedOf kind ms h (kept (marksOf ms) (entriesOf l))) h p ≡ normalOf kind ms h p (daclAs present l)
-normal-walked kind present ms h p l = normal-is kind ms h (daclAs present l) _ (walked-kept kind ms h (entriesOf l)) p
+zeros : (n k : ℕ) → _≡_ {A = ℕ} (getD (replicate n 0) k 0) 0
+zeros zero k = refl
+zeros (suc n) zero = refl
+zeros (suc n) (suc k) = zeros n k
 
--- what the list alone gives
-pub listed-walked : (kind : ℕ) (present : Bool) (ms : List Member) (h : Hits) (l : List ℕ) →
-    listedBy kind present (walkedOf kind ms h (kept (marksOf ms) (entriesOf l))) ≡ listGives kind ms h (daclAs present l)
-listed-walked kind present ms h l = listed-is kind ms h (daclAs present l) _ (walked-kept kind ms h (entriesOf l))
+module _ (attrs : Bool) (l : List ℕ) (at : ℕ) (short : length l ≤ 32768) (few : length (crowdAt attrs l at) ≤ 257)
+    (h0 s0 heads seats : List ℕ) (clear : h0 ≡ replicate 512 0) (clean : s0 ≡ replicate 258 0)
+    (first : heads ≡ chainsOf attrs l at (tables h0 s0) .heads) (second : seats ≡ chainsOf attrs l at (tables h0 s0) .seats) where
+  abbrev made : Tables
+  made = chainsOf attrs l at (tables h0 s0)
 
--- what all rules leave
-pub rules-kept : (kind : ℕ) (ms : List Member) (h : Hits) (p : ℕ) (rs : List Lists) →
-    ruledBy kind ms h p (keptRules (marksOf ms) rs) ≡ ruledBy kind ms h p rs
-rules-kept kind ms h p rs = ruled-kept kind ms h p (marksOf ms) (result-kept kind ms h p) (ruled everything 0) rs
+  pub crowd-shown : Alike (shown heads seats l) (crowdAt attrs l at)
+  crowd-shown allow w =
+      ap₂ (λ (h s : List ℕ). among allow (shown h s l) w) first second
+      ∙ chains-say h0 s0 (λ k. ap (λ (h : List ℕ). getD h k 0) clear ∙ zeros 512 k) (ap length clear ∙ length-replicate {A = ℕ} 512 0)
+      (ap length clean ∙ length-replicate {A = ℕ} 258 0) attrs l at short few made refl allow w
+
+-- ---- those whom the tables show answer as the crowd does
+
+module _ (kind : ℕ) (ms ns : List Member) (same : Alike ms ns) (owner self : List ℕ) where
+  abbrev hits : Hits
+  hits = hitsOf ms owner self
+
+  -- normal evaluation, from the walk over the entries
+  pub normal-walked : (present : Bool) (p : ℕ) (l : List ℕ) (h : Hits) (w : Walked) → h ≡ hits → w ≡ walkedOf kind ms h
+      (entriesByLength l) →
+      normalBy kind present w h p ≡ normalOf kind ns (hitsOf ns owner self) p (daclAs present l)
+  normal-walked present p l h w e f =
+      normal-is kind ns h (daclAs present l) w (f ∙ walked-alike ms ns same kind h (entriesByLength l)) p
+      ∙ ap (λ (x : Hits). normalOf kind ns x p (daclAs present l)) (e ∙ hits-alike ms ns same owner self)
+
+  -- what the list alone gives
+  pub listed-walked : (present : Bool) (l : List ℕ) (h : Hits) (w : Walked) → h ≡ hits → w ≡ walkedOf kind ms h (entriesByLength l) →
+      listedBy kind present w ≡ listGives kind ns (hitsOf ns owner self) (daclAs present l)
+  listed-walked present l h w e f =
+      listed-is kind ns h (daclAs present l) w (f ∙ walked-alike ms ns same kind h (entriesByLength l))
+      ∙ ap (λ (x : Hits). listGives kind ns x (daclAs present l)) (e ∙ hits-alike ms ns same owner self)
+
+  -- what all rules leave
+  pub rules-shown : (p : ℕ) (rs : List Lists) (h : Hits) (r : Ruled) → h ≡ hits → r ≡ ruledBy kind ms h p rs →
+      r ≡ ruledBy kind ns (hitsOf ns owner self) p rs
+  rules-shown p rs h r e f =
+      f
+      ∙ ruled-alike ms ns same kind h p (ruled everything 0) rs
+      ∙ ap (λ (x : Hits). ruledBy kind ns x p rs) (e ∙ hits-alike ms ns same owner self)
 
 -- ---- confinement, and what is found of it all
 

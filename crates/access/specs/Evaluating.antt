@@ -1,11 +1,12 @@
 -- What the evaluation finds, read from the bytes of a flat listing: `foundOf` of Granted, with the token in its listing (EvaluatingLaws,
 -- `found-listed`). The confinement identity stands at a place that the reader of tokens names.
-use Prim.Native.Nat.{ℕ}
+use Prim.Native.Nat.{ℕ, _≤_}
 use mathlib.Core.List.{List}
 use mathlib.Core.Bool.{Bool, true, false, cond}
+use lib.ListN.{length}
 use Rattle.base.specs.Bytes.{u32At}
 use Rattle.base.specs.Bits.{and}
-use Rattle.lists.specs.Acl.{entriesOf}
+use Rattle.lists.specs.ByLength.{entriesByLength}
 use Rattle.records.specs.Crowd.{Member, crowdAt, userPlace}
 use Rattle.passes.specs.Matching.{hitsOf}
 use Rattle.passes.specs.NormalEvaluation.{Dacl, listGives, normalOf}
@@ -23,9 +24,13 @@ flagsIn l = u32At l 0
 abbrev pub privilegesIn : List ℕ → ℕ
 privilegesIn l = u32At l 4
 
--- a list's bytes, where it is present
+-- the crowds of a listing have no more seats than the chains have numbers
+abbrev pub Seatable : List ℕ → ℕ → Type 0
+Seatable l at = (length l ≤ 32768) × ((length (crowdIn l) ≤ 257) × (length (crowdAt false l at) ≤ 257))
+
+-- a list's bytes, where it is present; they were judged before
 abbrev pub daclAs : Bool → List ℕ → Dacl
-daclAs present l = record { present = present; entries = entriesOf l }
+daclAs present l = record { present = present; entries = entriesByLength l }
 
 -- the bits that confinement leaves
 unfoldable pub confinementIn : ℕ → List ℕ → ℕ → List ℕ → List ℕ → Dacl → ℕ

@@ -1,10 +1,10 @@
 // The evaluation over a token's flat listing: normal evaluation, confinement and the rules of the
-// policy. Every list is walked by the one pass; the table and the hits of the normal identities are
-// made once and serve the descriptor's list and every rule.
+// policy. Every list is walked by the one pass; the chains and the hits of the normal identities
+// are made once and serve the descriptor's list and every rule.
 ghost use mathlib.Core.Path.{_≡_};
 ghost use Rattle.passes.specs.Confinement.{confines};
 ghost use Rattle.policy.specs.ByLengths.{rulesByLengths};
-ghost use Rattle.access.specs.Evaluating.{daclAs, confinementIn, foundIn};
+ghost use Rattle.access.specs.Evaluating.{daclAs, confinementIn, foundIn, Seatable};
 use crate::answer::Found;
 use lists::Rights;
 use masks::Tally;
@@ -33,20 +33,24 @@ fn confinement(
     present: bool,
     list: &[u8],
 ) -> Rights
+    requires { ⌜ Seatable (now listing) place ⌝ }
     ensures { λ r. ⌜ r .0 ≡ confinementIn kind (now (listing .entry)) place (now (owner .entry))
         (now (me .entry)) (daclAs present (now (list .entry))) ⌝ }
 {
     if !confines(base::u32_at(listing, 0)) {
         return Tally::EVERYTHING;
     }
-    let table = passes::marks(listing, place, false);
-    let hits = passes::hits(listing, place, false, owner, me);
-    let walked = passes::pass(kind, list, listing, place, false, &table, hits);
+    let mut heads = [0u16; 512];
+    let mut seats = [0u32; 258];
+    passes::chain_crowd(listing, place, false, &mut heads, &mut seats);
+    let hits = passes::hits(listing, &heads, &seats, owner, me);
+    let walked = passes::pass(kind, list, listing, &heads, &seats, hits);
     passes::listed(kind, present, walked)
 }
 
 // What is found for a kind. The confinement identity stands at `place` of the listing, where the
-// token is confined; `list` is the descriptor's, and empty where it is not present.
+// token is confined; `list` is the descriptor's, which was judged before, and empty where it is not
+// present.
 pub(crate) fn found_in(
     kind: u32,
     listing: &[u8],
@@ -57,17 +61,20 @@ pub(crate) fn found_in(
     list: &[u8],
     policy: &[u8],
 ) -> Found
+    requires { ⌜ Seatable (now listing) place ⌝ }
     ensures { λ r. ⌜ r ≡ foundIn kind (now (listing .entry)) place (now (owner .entry))
         (now (me .entry)) (daclAs present (now (list .entry)))
         (rulesByLengths (now (policy .entry))) ⌝ }
 {
-    let table = passes::marks(listing, USER, true);
-    let hits = passes::hits(listing, USER, true, owner, me);
+    let mut heads = [0u16; 512];
+    let mut seats = [0u32; 258];
+    passes::chain_crowd(listing, USER, true, &mut heads, &mut seats);
+    let hits = passes::hits(listing, &heads, &seats, owner, me);
     let privileges = base::u32_at(listing, 4) as u64;
-    let walked = passes::pass(kind, list, listing, USER, true, &table, hits);
+    let walked = passes::pass(kind, list, listing, &heads, &seats, hits);
     let normal = passes::normal(kind, present, walked, hits, privileges);
     let kept = confinement(kind, listing, place, owner, me, present, list);
-    let rules = policy::ruled_by(policy, kind, listing, USER, &table, hits, privileges);
+    let rules = policy::ruled_by(policy, kind, listing, &heads, &seats, hits, privileges);
     let confined = Rights(normal.0 & kept.0);
     let ruled = Rights(confined.0 & rules.left.0);
     let differ = rules.differ;

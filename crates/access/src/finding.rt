@@ -1,8 +1,11 @@
 // What is found for a kind, whatever the mask: the numbers 3 to 10 in the page's order, then the
 // evaluation. Requests for many masks are answered from one finding.
 ghost use mathlib.Core.Path.{_≡_};
+ghost use mathlib.Core.Bool.{true};
+ghost use lib.ListN.{length};
 ghost use Rattle.lists.specs.Descriptor as descriptor;
 ghost use Rattle.policy.specs.Policy as policy;
+ghost use Rattle.records.specs.Unpacking.{roomFits};
 ghost use Rattle.access.specs.Status.{selfFits};
 ghost use Rattle.access.specs.Findings.{findingsOf};
 use crate::answer::Findings;
@@ -44,18 +47,21 @@ fn standing_number(v: Standing) -> u32
     }
 }
 
-// What is found, or the number of a refusal.
-pub(crate) fn findings(
+// What is found, or the number of a refusal. The token's listing is made in `room`, which is long
+// enough for it.
+fn findings_in(
     kind: u32,
     token: &[u8],
     me: &[u8],
     descriptor: &[u8],
     policy: &[u8],
+    room: &mut [u8],
 ) -> Findings
+    requires { ⌜ roomFits (length (now room)) (length (now token)) ≡ true ⌝ }
     ensures { λ r. ⌜ r ≡ findingsOf kind (now (token .entry)) (now (me .entry))
         (now (descriptor .entry)) (now (policy .entry)) ⌝ }
 {
-    let listed = tokens::listing_of(token);
+    let listed = tokens::list_in(token, room);
     if listed.status != 0 {
         return stopped(listed.status);
     }
@@ -74,12 +80,11 @@ pub(crate) fn findings(
     }
     let owner = lists::part(descriptor, parts.owner);
     let list = lists::part(descriptor, parts.dacl);
-    let bytes = listed.bytes;
     let n = listed.length;
     let place = listed.confined_at;
     let found = found_in(
         kind,
-        &bytes[0..n],
+        &room[0..n],
         place,
         owner,
         me,
@@ -88,4 +93,32 @@ pub(crate) fn findings(
         policy,
     );
     Findings { status: 0, found }
+}
+
+// What is found, or the number of a refusal. The room for the token's listing is chosen by the
+// record's length.
+pub(crate) fn findings(
+    kind: u32,
+    token: &[u8],
+    me: &[u8],
+    descriptor: &[u8],
+    policy: &[u8],
+) -> Findings
+    ensures { λ r. ⌜ r ≡ findingsOf kind (now (token .entry)) (now (me .entry))
+        (now (descriptor .entry)) (now (policy .entry)) ⌝ }
+{
+    if token.len() <= 64 {
+        let mut tiny = [0u8; 256];
+        return findings_in(kind, token, me, descriptor, policy, &mut tiny);
+    }
+    if token.len() <= 512 {
+        let mut small = [0u8; 2048];
+        return findings_in(kind, token, me, descriptor, policy, &mut small);
+    }
+    if token.len() <= 2048 {
+        let mut middle = [0u8; 8192];
+        return findings_in(kind, token, me, descriptor, policy, &mut middle);
+    }
+    let mut large = [0u8; 22940];
+    findings_in(kind, token, me, descriptor, policy, &mut large)
 }

@@ -7,7 +7,7 @@
 use Prim.Native.Nat.{ℕ, zero, suc, _+_, _-_, _<_, _≤_}
 use mathlib.Core.Path.{_≡_, refl, sym, ap, ap₂, _∙_}
 use mathlib.Core.List.{List, [], _∷_, _++_, reverseAux}
-use mathlib.Core.Bool.{Bool, true, false, cond, not, _&&_}
+use mathlib.Core.Bool.{Bool, true, false, cond, _&&_}
 use native.Mathlib.Nat.{sub-zero, min-le-left}
 use native.Mathlib.Numerals.{add-one}
 use native.Mathlib.Omega.{arith}
@@ -16,7 +16,7 @@ use lib.Pow.{areBytes}
 use lib.ListN.{length, getD, take, drop, length-take, length-drop, drop-of-length-le}
 use lib.Seq.{drop-cons, drop-drop, take-add, take-length, length-take-le, take-append-seam, drop-append-seam}
 use borrow.Author.Tests.{lt-ltb, eq-eqb, ne-eqb, eqb-true}
-use Rattle.base.specs.Bytes.{same, unlike, part, byteAt}
+use Rattle.base.specs.Bytes.{same, part, byteAt}
 
 -- ---- same
 
@@ -54,21 +54,6 @@ same-length a b e = ap length (same-eq a b e)
 
 pub same-false-of-length : (a b : List ℕ) → (length a ≡ length b → ⊥) → same a b ≡ false
 same-false-of-length a b h = same-false-of-ne a b (λ e. h (ap length e))
-
--- what one byte tells apart is not equal
-unlike-self : (a : List ℕ) → unlike a a ≡ false
-unfolding unlike
-unlike-self a =
-    let x = byteAt a (length a - 4) in go (ltb (length a) 4) (ltb (length a) (length a)) (eqb x x) (eq-eqb x x refl)
-  where
-    go : (t u v : Bool) → v ≡ true → cond t false (cond u false (not v)) ≡ false
-    go true u v e = refl
-    go false true v e = refl
-    go false false v e = rw e
-
-pub unlike-same : (a b : List ℕ) → unlike a b ≡ true → same a b ≡ false
-unlike-same a b u =
-    same-false-of-ne a b (λ e. let f = ap (unlike a) (sym e) ∙ unlike-self a in let z : _≡_ {A = ℕ} 0 1 = cc in omega arith)
 
 pub same-sym : (a b : List ℕ) → same a b ≡ same b a
 same-sym a b = go (same a b) refl

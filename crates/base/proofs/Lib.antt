@@ -7,6 +7,8 @@ pub mod BytesLaws
 pub mod ValueLaws
 -- numbers of two, four and six bytes at a place
 pub mod WordsLaws
+-- numbers of eight bytes at a place, and lists compared eight bytes at a time
+pub mod EightLaws
 -- bytes that stand at a place
 pub mod PlaceLaws
 -- taking a reading apart

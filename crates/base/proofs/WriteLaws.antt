@@ -1,7 +1,7 @@
 -- Writing at a place, one thing after the other. No contract of a caller cites this file.
 -- In order: stores one after the other (sets-append), from the front (sets-front, buffer-room), a copy (copy-more, copy-done), the bytes of
 -- a number, lowest first (sets-little-none, sets-little-more), what was written (wrote-none, wrote-same, wrote-append) and the room for it
--- (room-first, room-after), the groups of a number that are still to be written (Writes), what a loop has left to write (Left).
+-- (wrote-long, room-first, room-after), the groups of a number that are still to be written (Writes), what a loop has left (Left).
 -- Assumes nothing.
 use Prim.Native.Nat.{ℕ, zero, suc, _+_, _-_, _*_, _/_, _%_, _^_, _<_, _≤_}
 use mathlib.Core.Path.{_≡_, refl, sym, ap, ap₂, _∙_}
@@ -89,16 +89,21 @@ wrote-append {a} {o = o} {v = v} {w = w} x y =
 pub wrote-same : {a b : List ℕ} {o r : ℕ} {v w : List ℕ} → v ≡ w → Wrote a b o r v → Wrote a b o r w
 wrote-same {a} {o = o} e x = record { place = x .place ∙ ap (λ (l : List ℕ). o + length l) e; bytes = x .bytes ∙ ap (sets a o) e }
 
+-- a buffer stays as long as it was
+pub wrote-long : {a b : List ℕ} {o r : ℕ} {w : List ℕ} → Wrote a b o r w → length b ≡ length a
+wrote-long {a} {o = o} {w = w} x = ap length (x .bytes) ∙ length-sets a o w
+
 -- what was written from the front
 pub wrote-length : {a b : List ℕ} {n : ℕ} {w : List ℕ} → Wrote a b 0 n w → n ≡ length w
 wrote-length {w = w} x = x .place ∙ zero-add (length w)
 
 pub wrote-inside : {a b : List ℕ} {n : ℕ} {w : List ℕ} → Wrote a b 0 n w → length w ≤ length a → n ≤ length b
-wrote-inside {a} {w = w} x h = let e = wrote-length x in let l = ap length (x .bytes) ∙ length-sets a 0 w in omega arith
+wrote-inside {a} {w = w} x h = let e = wrote-length x in let l = wrote-long x in omega arith
 
 -- there is room for the second where there is room for both
-pub room-after : {a b : List ℕ} {o m n : ℕ} {v : List ℕ} (w : List ℕ) → Wrote a b o m v → o + length (v ++ w) ≤ n → m + length w ≤ n
-room-after {v = v} w x h = let p = x .place in let l = length-append v w in omega arith
+pub room-after : {a b : List ℕ} {o m : ℕ} {v : List ℕ} (w : List ℕ) → Wrote a b o m v → o + length (v ++ w) ≤ length a →
+    m + length w ≤ length b
+room-after {v = v} w x h = let p = x .place in let l = length-append v w in let e = wrote-long x in omega arith
 
 pub room-first : (o n : ℕ) (v w : List ℕ) → o + length (v ++ w) ≤ n → o + length v ≤ n
 room-first o n v w h = let l = length-append v w in omega arith
@@ -162,8 +167,11 @@ pub left-start : (l : List ℕ) (o : ℕ) (w : List ℕ) → Left l o w l o w
 left-start l o w = record { bytes = refl; count = refl }
 
 module _ {l : List ℕ} {o : ℕ} {w l′ : List ℕ} {m : ℕ} {v : List ℕ} (x : Left l o w l′ m v) where
-  pub left-room : (a b : List ℕ) (n : ℕ) → v ≡ a ++ b → o + length w ≤ n → m + length a ≤ n
-  left-room a b n e h = let c = x .count in let d = ap length e ∙ length-append a b in omega arith
+  pub left-long : length l′ ≡ length l
+  left-long = sym (length-sets l′ m v) ∙ ap length (sym (x .bytes)) ∙ length-sets l o w
+
+  pub left-room : (a b : List ℕ) → v ≡ a ++ b → o + length w ≤ length l → m + length a ≤ length l′
+  left-room a b e h = let c = x .count in let d = ap length e ∙ length-append a b in let k = left-long in omega arith
 
   pub left-step : (a b : List ℕ) {l″ : List ℕ} {r : ℕ} → v ≡ a ++ b → Wrote l′ l″ m r a → Left l o w l″ r b
   left-step a b e y =

@@ -1,9 +1,9 @@
 -- Bytes by place. A list of bytes is read from any place; what is not wholly there reads as 0, and every definition that cares asks first.
 use Prim.Native.Nat.{ℕ, zero, suc, _+_, _-_, _*_, _/_, _%_}
 use mathlib.Core.List.{List, [], _∷_, _++_}
-use mathlib.Core.Bool.{Bool, true, false, cond, not}
+use mathlib.Core.Bool.{Bool, true, false, cond}
 use lib.ListN.{length, getD, take, drop}
-use lib.Dec.{ltb, leb, eqb}
+use lib.Dec.{leb, eqb}
 
 abbrev pub byteAt : List ℕ → ℕ → ℕ
 byteAt s at = getD s at 0
@@ -17,6 +17,10 @@ u32At s at =
     cond (leb (at + 4) (length s))
     (byteAt s at + 256 * byteAt s (at + 1) + 65536 * byteAt s (at + 2) + 16777216 * byteAt s (at + 3))
     0
+
+-- a number of eight bytes, lowest first: its low half, then its high half
+unfoldable pub u64At : List ℕ → ℕ → ℕ
+u64At s at = cond (leb (at + 8) (length s)) (u32At s at + 4294967296 * u32At s (at + 4)) 0
 
 -- a number of six bytes, highest first
 unfoldable pub u48BeAt : List ℕ → ℕ → ℕ
@@ -36,12 +40,6 @@ same [] [] = true
 same [] (y ∷ ys) = false
 same (x ∷ xs) [] = false
 same (x ∷ xs) (y ∷ ys) = let r = same xs ys in cond (eqb x y) r false
-
--- the byte four places before the end, which tells most identities apart, differs
-unfoldable pub unlike : List ℕ → List ℕ → Bool
-unlike a b =
-    cond (ltb (length a) 4) false
-    (cond (ltb (length b) (length a)) false (not (eqb (byteAt a (length a - 4)) (byteAt b (length a - 4)))))
 
 -- the n lowest bytes of a number, lowest first, and highest first
 unfoldable pub little : ℕ → ℕ → List ℕ

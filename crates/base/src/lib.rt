@@ -6,6 +6,7 @@ mod sevens;
 pub use bytes::same;
 pub use bytes::u16_at;
 pub use bytes::u32_at;
+pub use bytes::u64_at;
 pub use bytes::wide;
 pub use sevens::Num;
 pub use sevens::number32;

@@ -7,3 +7,5 @@ pub mod Acl
 pub mod Spare
 -- the self-relative descriptor, its parts and its numbers 6, 7 and 8
 pub mod Descriptor
+-- how the code goes about it: a judged list walked once more, by lengths
+pub mod ByLength

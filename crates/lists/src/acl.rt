@@ -154,7 +154,7 @@ pub fn scan_entries(l: &[u8], deep: bool) -> Scan
 }
 
 // No allow or deny entry.
-fn no_ace() -> Ace
+pub(crate) fn no_ace() -> Ace
     ensures { λ r. ⌜ r ≡ noAce ⌝ }
 {
     Ace {

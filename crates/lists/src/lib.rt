@@ -1,6 +1,7 @@
 // Identities, lists and descriptors (MS-DTYP), read in place from lent bytes. Knows nothing of
 // tokens.
 mod acl;
+mod by_length;
 mod descriptor;
 mod sid;
 
@@ -10,6 +11,7 @@ pub use acl::Scan;
 pub use acl::ace_at;
 pub use acl::acl_end;
 pub use acl::scan_entries;
+pub use by_length::ace_by_length;
 pub use descriptor::Extent;
 pub use descriptor::Parts;
 pub use descriptor::Verdict;

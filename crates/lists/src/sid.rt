@@ -3,12 +3,7 @@ ghost use mathlib.Core.Path.{_≡_};
 ghost use Prim.Native.Nat.{_≤_};
 ghost use lib.ListN.{length};
 ghost use Rattle.base.specs.Bytes.{same};
-ghost use Rattle.lists.specs.Sid.{sidEnd, isSid, ownerRights, virtual};
-
-// S-1-3-4, owner rights, and S-1-5-10, the object itself.
-const OWNER_RIGHTS: [u8; 12] = [1, 1, 0, 0, 0, 0, 0, 3, 4, 0, 0, 0];
-
-const PRINCIPAL_SELF: [u8; 12] = [1, 1, 0, 0, 0, 0, 0, 5, 10, 0, 0, 0];
+ghost use Rattle.lists.specs.Sid.{sidEnd, isSid, ownerRights, virtual, single};
 
 // The place after the SID that stands whole at `at`, or 0 where none does.
 pub fn sid_end(s: &[u8], at: usize) -> usize
@@ -45,21 +40,36 @@ pub fn is_sid(s: &[u8]) -> bool
     e == s.len()
 }
 
-// Whether a SID is S-1-3-4.
+// Whether a SID has one word and an authority below 2^32, given as its four bytes stand: the words
+// are compared as numbers, the one that tells most identities apart first.
+fn is_single(w: &[u8], authority: u32, word: u32) -> bool
+    ensures { λ r. ⌜ r ≡ same (now (w .entry)) (single authority word) ⌝ }
+{
+    if w.len() != 12 {
+        return false;
+    }
+    if base::u32_at(w, 8) != word {
+        return false;
+    }
+    if base::u32_at(w, 4) != authority {
+        return false;
+    }
+    base::u32_at(w, 0) == 257
+}
+
+// Whether a SID is S-1-3-4, owner rights.
 pub fn is_owner_rights(w: &[u8]) -> bool
     ensures { λ r. ⌜ r ≡ same (now (w .entry)) ownerRights ⌝ }
 {
-    let owner = OWNER_RIGHTS;
-    base::same(w, &owner)
+    is_single(w, 0x3000000, 4)
 }
 
-// Whether a SID is one of the two virtual identities.
+// Whether a SID is one of the two virtual identities: owner rights, or S-1-5-10, the object itself.
 pub fn is_virtual(w: &[u8]) -> bool
     ensures { λ r. ⌜ r ≡ virtual (now (w .entry)) ⌝ }
 {
     if is_owner_rights(w) {
         return true;
     }
-    let itself = PRINCIPAL_SELF;
-    base::same(w, &itself)
+    is_single(w, 0x5000000, 10)
 }

@@ -1,8 +1,12 @@
 -- The laws of this crate's definitions, for the proofs of its callers.
 pub mod MatchingLaws
 pub mod OnePassLaws
-pub mod MarksLaws
+pub mod KeyLaws
+pub mod ChainsLaws
+mod CellLaws
+pub mod LinkLaws
+pub mod CrowdsLaws
 pub mod EvaluationLaws
 pub mod SeatsLaws
-mod SearchLaws
+mod LinkSteps
 mod WalkSteps

@@ -1,26 +1,28 @@
--- One turn of the pass, by the way that it takes: no entry stands, the table dismisses it, or it steps the tally on.
+-- One turn of the pass, by the way that it takes: no entry stands, it changes nothing, or it steps the tally on.
 -- Assumes nothing.
 use Prim.Native.Nat.{ℕ, suc, _-_}
-use mathlib.Core.Bool.{Bool, true, false, cond, _&&_, _||_, or-false}
+use mathlib.Core.Bool.{Bool, true, false, cond, _&&_, _||_, or-false, and-false}
 use mathlib.Core.List.{List, [], _∷_}
 use mathlib.Core.Path.{_≡_, refl, sym, ap, ap₂, _∙_}
 use native.Mathlib.Omega.{arith}
 use borrow.Author.Tests.{eq-eqb, ne-eqb}
 use Rattle.base.specs.Bits.{has, covers}
 use Rattle.base.specs.Bytes.{same, part, u16At}
-use Rattle.lists.specs.Acl.{Entry, aceAt, entryOf, entriesAt, entriesOf}
-use Rattle.lists.specs.Sid.{ownerRights}
+use Rattle.lists.specs.Acl.{Entry, entryOf}
+use Rattle.lists.specs.ByLength.{aceByLength, entriesByLengthAt, entriesByLength}
+use Rattle.lists.specs.Sid.{ownerRights, principalSelf, virtual}
 use Rattle.lists.specs.declared.acl.Ace.{Ace}
 use Rattle.records.specs.Crowd.{Member}
-use Rattle.masks.specs.KindsAndMasks.{entryMask}
-use Rattle.passes.specs.Marks.{dismissed, kept}
+use Rattle.masks.specs.KindsAndMasks.{allBits, entryMask}
 use Rattle.passes.specs.Matching.{matches}
 use Rattle.passes.specs.NormalEvaluation.{counts, namesOwner}
 use Rattle.masks.specs.TheTally.{emptied, allowing, denying, stepped, idle}
-use Rattle.passes.specs.OnePass.{allows, taken, run}
+use Rattle.passes.specs.OnePass.{skipped, allows, taken, run}
 use Rattle.passes.specs.OneWalk.{walkedBy, walkedFrom, walkedOf}
 use Rattle.passes.specs.declared.matching.Hits.{Hits}
 use Rattle.masks.specs.declared.tally.Tally.{Tally}
+use Rattle.base.proofs.BitsLaws.{within-covers}
+use Rattle.masks.proofs.MasksLaws.{entry-mask-within}
 use Rattle.masks.proofs.TallyLaws.{allowing-decided, denying-decided}
 
 -- ---- the tally
@@ -40,14 +42,35 @@ taken-idle kind ms h t x e = go (has (x .flags) 0x08) (matches (allows x) ms h (
     go false true false e = denying-decided t m e
     go false false allow e = refl
 
-pub taken-by : (kind : ℕ) (ms : List Member) (h : Hits) (t : Tally) (x : Entry) (hit : Bool) (m : ℕ) → m ≡ entryMask kind (x .mask) →
-    idle t (x .flags) m ≡ false → hit ≡ matches (allows x) ms h (x .sid) → stepped t hit (allows x) m ≡ taken kind ms h t x
+-- an entry that is for children only, or that nobody matches
+pub taken-skipped : (kind : ℕ) (ms : List Member) (h : Hits) (t : Tally) (x : Entry) → skipped x ≡ true → taken kind ms h t x ≡ t
 unfolding taken
-taken-by kind ms h t x hit m e i p = rw (awake (has (x .flags) 0x08) (covers (t .decided .0) m) i, ← p, ← e)
+taken-skipped kind ms h t x e = rw e
+
+pub taken-missed : (kind : ℕ) (ms : List Member) (h : Hits) (t : Tally) (x : Entry) → matches (allows x) ms h (x .sid) ≡ false →
+    taken kind ms h t x ≡ t
+unfolding taken
+taken-missed kind ms h t x e = rw e (either (skipped x) t)
   where
-    awake : (skip done : Bool) → cond skip true done ≡ false → skip ≡ false
-    awake true done e = e
-    awake false done e = refl
+    either : (b : Bool) (t : Tally) → cond b t t ≡ t
+    either true t = refl
+    either false t = refl
+
+-- where all bits are decided no entry changes anything
+pub taken-full : (kind : ℕ) (ms : List Member) (h : Hits) (t : Tally) (x : Entry) → t .decided .0 ≡ allBits kind → taken kind ms h t x ≡ t
+taken-full kind ms h t x e = taken-idle kind ms h t x (go (has (x .flags) 0x08))
+  where
+    m : ℕ
+    m = entryMask kind (x .mask)
+
+    go : (skip : Bool) → cond skip true (covers (t .decided .0) m) ≡ true
+    go true = refl
+    go false = rw e (within-covers (allBits kind) m (entry-mask-within kind (x .mask)))
+
+pub taken-by : (kind : ℕ) (ms : List Member) (h : Hits) (t : Tally) (x : Entry) (hit : Bool) (m : ℕ) → m ≡ entryMask kind (x .mask) →
+    skipped x ≡ false → hit ≡ matches (allows x) ms h (x .sid) → stepped t hit (allows x) m ≡ taken kind ms h t x
+unfolding taken
+taken-by kind ms h t x hit m e i p = rw (i, ← p, ← e)
 
 -- ---- the walk
 
@@ -68,46 +91,49 @@ walked-step kind ms h t named x es = rw (names-step named (counts x && same (x .
 
 -- ---- the entries, where n are left and a stands at the place
 
-module _ (table list : List ℕ) (n less at : ℕ) (a : Ace) (here : a ≡ aceAt list at) (one : n ≡ suc less) where
-  pub kept-bad : a .next ≡ 0 → kept table (entriesAt list n at) ≡ []
-  unfolding entriesAt kept
-  kept-bad z = rw (one, ← here, eq-eqb (a .next) 0 z)
+pub entries-end : (list : List ℕ) (n at : ℕ) → n ≡ 0 → entriesByLengthAt list n at ≡ []
+unfolding entriesByLengthAt
+entries-end list n at z = rw z
 
-  pub kept-off : (a .next ≡ 0 → ⊥) → dismissed table (part list (a .from) (a .to)) ≡ true →
-      kept table (entriesAt list n at) ≡ kept table (entriesAt list less (a .next))
-  unfolding entriesAt kept
-  kept-off k d = rw (one, ← here, ne-eqb (a .next) 0 k, d)
+module _ (list : List ℕ) (n less at : ℕ) (a : Ace) (here : a ≡ aceByLength list at) (one : n ≡ suc less) where
+  pub entries-bad : a .next ≡ 0 → entriesByLengthAt list n at ≡ []
+  unfolding entriesByLengthAt
+  entries-bad z = rw (one, ← here, eq-eqb (a .next) 0 z)
 
-  pub kept-on : (a .next ≡ 0 → ⊥) → dismissed table (part list (a .from) (a .to)) ≡ false →
-      kept table (entriesAt list n at) ≡ entryOf list a ∷ kept table (entriesAt list less (a .next))
-  unfolding entriesAt kept
-  kept-on k d = rw (one, ← here, ne-eqb (a .next) 0 k, d)
+  entries-on : (a .next ≡ 0 → ⊥) → entriesByLengthAt list n at ≡ entryOf list a ∷ entriesByLengthAt list less (a .next)
+  unfolding entriesByLengthAt
+  entries-on k = rw (one, ← here, ne-eqb (a .next) 0 k)
 
-pub kept-end : (table list : List ℕ) (n at : ℕ) → n ≡ 0 → kept table (entriesAt list n at) ≡ []
-unfolding entriesAt kept
-kept-end table list n at z = rw z
-
-module _ (kind : ℕ) (ms : List Member) (h : Hits) (table list : List ℕ) (n less at : ℕ) (t : Tally) (named : Bool)
-    (a : Ace) (here : a ≡ aceAt list at) (one : n ≡ suc less) (some : a .next ≡ 0 → ⊥) where
-  pub walk-off : dismissed table (part list (a .from) (a .to)) ≡ true →
-      walkedFrom kind ms h t named (kept table (entriesAt list n at))
-      ≡ walkedFrom kind ms h t named (kept table (entriesAt list less (a .next)))
-  walk-off d = ap (λ (es : List Entry). walkedFrom kind ms h t named es) (kept-off table list n less at a here one some d)
-
-  pub walk-on : (t2 : Tally) (named2 : Bool) → dismissed table (part list (a .from) (a .to)) ≡ false →
+  -- one entry on, with the tally and the naming that it leaves
+  pub walk-on : (kind : ℕ) (ms : List Member) (h : Hits) (t t2 : Tally) (named named2 : Bool) → (a .next ≡ 0 → ⊥) →
       named2 ≡ (named || (counts (entryOf list a) && same (part list (a .from) (a .to)) ownerRights)) →
       t2 ≡ taken kind ms h t (entryOf list a) →
-      walkedFrom kind ms h t named (kept table (entriesAt list n at))
-      ≡ walkedFrom kind ms h t2 named2 (kept table (entriesAt list less (a .next)))
-  walk-on t2 named2 d p q =
-      ap (λ (es : List Entry). walkedFrom kind ms h t named es) (kept-on table list n less at a here one some d)
-      ∙ walked-step kind ms h t named (entryOf list a) (kept table (entriesAt list less (a .next)))
-      ∙ sym (ap₂ (λ (u : Tally) (b : Bool). walkedFrom kind ms h u b (kept table (entriesAt list less (a .next)))) q p)
+      walkedFrom kind ms h t named (entriesByLengthAt list n at) ≡ walkedFrom kind ms h t2 named2 (entriesByLengthAt list less (a .next))
+  walk-on kind ms h t t2 named named2 k p q =
+      ap (λ (es : List Entry). walkedFrom kind ms h t named es) (entries-on k)
+      ∙ walked-step kind ms h t named (entryOf list a) (entriesByLengthAt list less (a .next))
+      ∙ sym (ap₂ (λ (u : Tally) (b : Bool). walkedFrom kind ms h u b (entriesByLengthAt list less (a .next))) q p)
 
-pub walk-start : (kind : ℕ) (ms : List Member) (h : Hits) (table list : List ℕ) (n : ℕ) (t : Tally) → n ≡ u16At list 4 → t ≡ emptied →
-    walkedOf kind ms h (kept table (entriesOf list)) ≡ walkedFrom kind ms h t false (kept table (entriesAt list (n - 0) 8))
-unfolding entriesOf
-walk-start kind ms h table list n t p q = let z : n - 0 ≡ n = omega arith in rw (z, p, q)
+-- ---- whether S-1-3-4 was named before, or is by the entry
+
+module _ (named : Bool) (x : Entry) where
+  pub names-skipped : skipped x ≡ true → named ≡ (named || (counts x && same (x .sid) ownerRights))
+  names-skipped e = rw (e, or-false named)
+
+  pub names-other : virtual (x .sid) ≡ false → named ≡ (named || (counts x && same (x .sid) ownerRights))
+  names-other v = rw (first (same (x .sid) ownerRights) (same (x .sid) principalSelf) v, and-false (counts x), or-false named)
+    where
+      first : (a b : Bool) → (a || b) ≡ false → a ≡ false
+      first true b e = e
+      first false b e = refl
+
+  pub names-counted : skipped x ≡ false → (named || same (x .sid) ownerRights) ≡ (named || (counts x && same (x .sid) ownerRights))
+  names-counted e = rw e
+
+pub walk-start : (kind : ℕ) (ms : List Member) (h : Hits) (list : List ℕ) (n : ℕ) (t : Tally) → n ≡ u16At list 4 → t ≡ emptied →
+    walkedOf kind ms h (entriesByLength list) ≡ walkedFrom kind ms h t false (entriesByLengthAt list (n - 0) 8)
+unfolding entriesByLength
+walk-start kind ms h list n t p q = let z : n - 0 ≡ n = omega arith in rw (z, p, q)
 
 pub walk-end : (kind : ℕ) (ms : List Member) (h : Hits) (t : Tally) (named : Bool) (es : List Entry) → es ≡ [] →
     walkedFrom kind ms h t named es ≡ walkedBy t named

@@ -9,7 +9,8 @@ pub mod NormalEvaluation
 pub mod Confinement
 -- how the code goes about it: a listing read seat by seat
 pub mod Seats
--- how the code goes about it: a table of last bytes that dismisses strangers
-pub mod Marks
+-- how the code goes about it: the key of a SID, and the seats of a listing chained by their keys
+pub mod Key
+pub mod Chains
 -- what one walk answers, for every evaluation
 pub mod OneWalk

@@ -5,7 +5,7 @@ use mathlib.Core.List.{List, [], _∷_}
 use mathlib.Core.Bool.{Bool, true, false, cond, not, _&&_}
 use lib.ListN.{length}
 use lib.Dec.{ltb, eqb}
-use Rattle.base.specs.Bytes.{u32At, part, same}
+use Rattle.base.specs.Bytes.{u32At, part}
 use Rattle.base.specs.Bits.{has}
 use Rattle.lists.specs.Sid.{sidEnd}
 use Rattle.records.specs.Crowd.{Member, width, membersAt}
@@ -58,7 +58,3 @@ seated s x = record { sid = part s (x .from) (x .to); allows = x .allows; denies
 -- the member in a seat and the n after it
 abbrev pub fromSeat : Bool → List ℕ → ℕ → Seat → List Member
 fromSeat attrs s n x = let r = seated s x ∷ membersAt attrs s n (x .next) in cond (eqb (x .to) 0) [] r
-
--- the identity in a seat is the SID, and matches
-abbrev pub sits : Bool → List ℕ → Seat → List ℕ → Bool
-sits allow s x w = same (part s (x .from) (x .to)) w && cond allow (x .allows) (x .denies)

@@ -1,11 +1,11 @@
-// Which identities match: those of a crowd, and the two virtual ones.
+// Which identities match: those whom the tables of chains show, and the two virtual ones.
 ghost use mathlib.Core.Path.{_≡_};
-ghost use Rattle.records.specs.Crowd.{crowdAt};
+ghost use Rattle.passes.specs.Chains.{shown};
 ghost use Rattle.passes.specs.Matching.{among, side};
 ghost use Rattle.passes.specs.OneWalk.{virtualMatches};
-use crate::seats::first_seat;
-use crate::seats::seat_at;
-use crate::seats::sits;
+use crate::chains::head;
+use crate::chains::next;
+use crate::chains::sits;
 
 // How an identity stands in for a virtual one, for allow and for deny.
 pub struct Hit {
@@ -19,25 +19,33 @@ pub struct Hits {
     pub me: Hit,
 }
 
-// Whether a SID matches one of the crowd at a place of a listing.
-pub fn among(listing: &[u8], at: usize, attrs: bool, w: &[u8], allow: bool) -> bool
-    ensures { λ r. ⌜ r ≡ among allow (crowdAt attrs (now (listing .entry)) at) (now (w .entry)) ⌝ }
+// Whether a SID matches one of those whom the tables show.
+pub(crate) fn among(
+    listing: &[u8],
+    heads: &[u16; 512],
+    seats: &[u32; 258],
+    w: &[u8],
+    allow: bool,
+) -> bool
+    ensures { λ r. ⌜ r ≡ among allow
+        (shown (now (heads .entry)) (now (seats .entry)) (now (listing .entry)))
+        (now (w .entry)) ⌝ }
 {
-    let mut seat = first_seat(listing, at);
-    let mut left = base::u32_at(listing, seat.to);
+    let mut n = head(heads, w);
     // "The search through a token stops at the first listing that matches."
     let hit = 'search: loop {
-        if seat.to == 0 {
+        if n == 0 {
             break 'search false;
         }
-        if sits(listing, seat, w, allow) {
+        let x = seats[n];
+        if sits(listing, x, w, allow) {
             break 'search true;
         }
-        if left == 0 {
+        let after = next(x);
+        if n <= after {
             break 'search false;
         }
-        left -= 1;
-        seat = seat_at(listing, seat.next, attrs);
+        n = after;
     };
     hit
 }

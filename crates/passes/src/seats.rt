@@ -1,10 +1,9 @@
 // A token's flat listing, read in place, seat by seat.
 ghost use mathlib.Core.Path.{_≡_};
-ghost use mathlib.Core.Bool.{cond};
 ghost use Prim.Native.Nat.{_≤_};
 ghost use lib.ListN.{length};
 ghost use Rattle.passes.specs.Seats.{allowWord, denyWord, noSeat, onward};
-ghost use Rattle.passes.specs.Seats.{firstSeat, seatAt, sits, SeatLies};
+ghost use Rattle.passes.specs.Seats.{firstSeat, seatAt, SeatLies};
 use records::Attributes;
 
 // An identity of a listing: its SID stands from `from` to `to`, and `next` is the place after what
@@ -106,27 +105,4 @@ pub(crate) fn seat_at(s: &[u8], at: usize, attrs: bool) -> Seat
         allows: allows(word),
         denies: denies(word),
     }
-}
-
-// Whether the identity in a seat matches for allow, or for deny.
-fn ready(x: Seat, allow: bool) -> bool
-    ensures { λ r. ⌜ r ≡ cond allow (x .allows) (x .denies) ⌝ }
-{
-    if allow {
-        return x.allows;
-    }
-    x.denies
-}
-
-// Whether the identity in a seat of the listing is the SID, and matches.
-pub(crate) fn sits(listing: &[u8], x: Seat, w: &[u8], allow: bool) -> bool
-    requires { ⌜ (x .from ≤ x .to) × (x .to ≤ length (now listing)) ⌝ }
-    ensures { λ r. ⌜ r ≡ sits allow (now (listing .entry)) x (now (w .entry)) ⌝ }
-{
-    if !ready(x, allow) {
-        return false;
-    }
-    let from = x.from;
-    let to = x.to;
-    base::same(&listing[from..to], w)
 }

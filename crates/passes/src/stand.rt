@@ -1,14 +1,16 @@
 // How the owner and the self identity stand in for the two virtual identities.
 ghost use mathlib.Core.Path.{_≡_};
-ghost use Rattle.records.specs.Crowd.{crowdAt};
+ghost use Rattle.passes.specs.Chains.{shown};
 ghost use Rattle.passes.specs.Matching.{stands, hitOf, hitsOf};
 use crate::matching::Hit;
 use crate::matching::Hits;
 use crate::matching::among;
 
 // Whether an identity stands in for a virtual one. An empty one does not, nor a virtual one.
-fn stands(listing: &[u8], at: usize, attrs: bool, w: &[u8], allow: bool) -> bool
-    ensures { λ r. ⌜ r ≡ stands allow (crowdAt attrs (now (listing .entry)) at) (now (w .entry)) ⌝ }
+fn stands(listing: &[u8], heads: &[u16; 512], seats: &[u32; 258], w: &[u8], allow: bool) -> bool
+    ensures { λ r. ⌜ r ≡ stands allow
+        (shown (now (heads .entry)) (now (seats .entry)) (now (listing .entry)))
+        (now (w .entry)) ⌝ }
 {
     if w.len() == 0 {
         return false;
@@ -16,25 +18,28 @@ fn stands(listing: &[u8], at: usize, attrs: bool, w: &[u8], allow: bool) -> bool
     if lists::is_virtual(w) {
         return false;
     }
-    among(listing, at, attrs, w, allow)
+    among(listing, heads, seats, w, allow)
 }
 
 // How an identity stands in for a virtual one.
-fn hit(listing: &[u8], at: usize, attrs: bool, w: &[u8]) -> Hit
-    ensures { λ r. ⌜ r ≡ hitOf (crowdAt attrs (now (listing .entry)) at) (now (w .entry)) ⌝ }
+fn hit(listing: &[u8], heads: &[u16; 512], seats: &[u32; 258], w: &[u8]) -> Hit
+    ensures { λ r. ⌜ r ≡ hitOf
+        (shown (now (heads .entry)) (now (seats .entry)) (now (listing .entry)))
+        (now (w .entry)) ⌝ }
 {
-    let allow = stands(listing, at, attrs, w, true);
-    let deny = stands(listing, at, attrs, w, false);
+    let allow = stands(listing, heads, seats, w, true);
+    let deny = stands(listing, heads, seats, w, false);
     Hit { allow, deny }
 }
 
 // How the owner and the self identity (`me`, which may be empty) stand in for the virtual ones.
-pub fn hits(listing: &[u8], at: usize, attrs: bool, owner: &[u8], me: &[u8]) -> Hits
-    ensures { λ r. ⌜ r ≡ hitsOf (crowdAt attrs (now (listing .entry)) at)
+pub fn hits(listing: &[u8], heads: &[u16; 512], seats: &[u32; 258], owner: &[u8], me: &[u8]) -> Hits
+    ensures { λ r. ⌜ r ≡ hitsOf
+        (shown (now (heads .entry)) (now (seats .entry)) (now (listing .entry)))
         (now (owner .entry)) (now (me .entry)) ⌝ }
 {
-    let first = hit(listing, at, attrs, owner);
-    let second = hit(listing, at, attrs, me);
+    let first = hit(listing, heads, seats, owner);
+    let second = hit(listing, heads, seats, me);
     Hits {
         owner: first,
         me: second,

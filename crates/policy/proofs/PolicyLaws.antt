@@ -11,13 +11,15 @@ use lib.Dec.{ltb, eqb}
 use borrow.Author.Tests.{ltb-true, ltb-false, ne-eqb, eqb-true, eqb-false}
 use Rattle.base.specs.Bytes.{byteAt, u32At}
 use Rattle.base.proofs.WordsLaws.{u32-at-out}
-use Rattle.lists.specs.Acl.{aclEnd, scanOf}
+use Rattle.lists.proofs.ByLengthLaws.{entries-by-length, entries-by-none}
+use Rattle.lists.specs.Acl.{aclEnd, scanOf, entriesOf}
+use Rattle.lists.specs.ByLength.{entriesByLength}
 use Rattle.lists.specs.declared.acl.Scan.{Scan}
 use Rattle.lists.specs.declared.acl.Scan.the-variants.{Broken, Foreign, Plain}
 use Rattle.policy.specs.Policy.{sectionAt, bytesOf, aclSection, maybeAcl, broken, alien, noRule, ruleOf, ruleAt}
 use Rattle.policy.specs.Policy.{rulesShaped, rulesUnread, standing, standingOf}
 use Rattle.policy.specs.Rules.{Lists, listsOf, rulesAt, rulesOf}
-use Rattle.policy.specs.ByLengths.{ruleByLengths, rulesByLengthsAt, rulesByLengths}
+use Rattle.policy.specs.ByLengths.{ruleByLengths, listsByLengths, rulesByLengthsAt, rulesByLengths}
 use Rattle.policy.specs.declared.sections.Section.{Section}
 use Rattle.policy.specs.declared.one_rule.Rule.{Rule}
 use Rattle.policy.specs.declared.shape.Standing.the-variants.{Sound, Misshapen}
@@ -71,7 +73,7 @@ module _ (s : List ℕ) (applies dacl sacl staged last : Section) where
 
 -- the sections alone find the same rule
 pub step-same : (s : List ℕ) (at : ℕ) → (ruleAt s at .next ≡ 0 → ⊥) →
-    (ruleByLengths s at .next ≡ ruleAt s at .next) × (listsOf s (ruleByLengths s at) ≡ listsOf s (ruleAt s at))
+    (ruleByLengths s at .next ≡ ruleAt s at .next) × (listsByLengths s (ruleByLengths s at) ≡ listsByLengths s (ruleAt s at))
 unfolding ruleAt ruleByLengths
 step-same s at h =
     let applies = sectionAt s at in
@@ -79,7 +81,7 @@ step-same s at h =
     let sacl = sectionAt s (dacl .to) in
     let staged = sectionAt s (sacl .to) in
     let e = shaped-rule s applies dacl sacl staged (sectionAt s (staged .to)) h .is in
-    (ap (λ (r : Rule). r .next) (sym e), ap (listsOf s) (sym e))
+    (ap (λ (r : Rule). r .next) (sym e), ap (listsByLengths s) (sym e))
 
 -- ---- plain lists
 
@@ -201,12 +203,28 @@ unfolding rulesAt PlainRules
 plain-count s zero at h = refl
 plain-count s (suc n) at h = rw (ne-eqb (ruleAt s at .next) 0 (h .0 .there)) (ap suc (plain-count s n (ruleAt s at .next) (h .1)))
 
+-- a section that may be empty, found by lengths
+maybe-found : (l : List ℕ) → maybeAcl true l ≡ Plain → entriesByLength l ≡ entriesOf l
+unfolding maybeAcl
+maybe-found l h = go (eqb (length l) 0) refl h
+  where
+    go : (b : Bool) → eqb (length l) 0 ≡ b → cond b Plain (aclSection true l) ≡ Plain → entriesByLength l ≡ entriesOf l
+    go true e f = entries-by-none l (eqb-true _ _ e)
+    go false e f = entries-by-length l (acl-plain true l f .1)
+
+plain-lists : (s : List ℕ) (r : Rule) → PlainRule s r → listsByLengths s r ≡ listsOf s r
+plain-lists s r p =
+    rw (
+      entries-by-length (bytesOf s (r .effective)) (acl-plain true (bytesOf s (r .effective)) (p .effective) .1),
+      maybe-found (bytesOf s (r .staged)) (p .staged),
+    )
+
 plain-found : (s : List ℕ) (n at : ℕ) → PlainRules s n at → rulesByLengthsAt s n at ≡ rulesAt s n at
 unfolding rulesByLengthsAt rulesAt PlainRules
 plain-found s zero at h = refl
 plain-found s (suc n) at h =
     let e = step-same s at (h .0 .there) in
-    rw (e .0, e .1, ne-eqb (ruleAt s at .next) 0 (h .0 .there))
+    rw (e .0, e .1, plain-lists s (ruleAt s at) (h .0), ne-eqb (ruleAt s at .next) 0 (h .0 .there))
     (ap (λ (rs : List Lists). listsOf s (ruleAt s at) ∷ rs) (plain-found s n (ruleAt s at .next) (h .1)))
 
 -- an empty policy's heading counts no rules either

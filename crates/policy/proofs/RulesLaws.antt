@@ -1,9 +1,8 @@
 -- What the rules of a policy come to. In order: rules after rules (ruled-append); bit by bit, what is left (left-bit, left-bit-all) and
 -- where staging differs (differ-bit); one rule more never adds a bit (ruled-within); masks of 32 bits (ruled-left-lt, result-lt,
--- ruled-differ-lt); a table that keeps every result keeps what the rules leave (ruled-kept, ruled-by-lengths), as the table of the same crowd
--- does (ruled-marked). Assumes nothing.
+-- ruled-differ-lt); crowds among whom the same SIDs match are left the same (ruled-alike). Assumes nothing.
 use Prim.Native.Nat.{ℕ, _^_, _<_, _≤_}
-use mathlib.Core.Path.{_≡_, refl, sym, ap, ap₂, _∙_}
+use mathlib.Core.Path.{_≡_, refl, sym, ap, _∙_}
 use mathlib.Core.List.{List, [], _∷_, _++_}
 use mathlib.Core.Bool.{Bool, true, false, cond, not, xor, _&&_, _||_, and-true, or-false, or-assoc, and-assoc}
 use native.Mathlib.Omega.{arith}
@@ -13,21 +12,14 @@ use Rattle.base.proofs.BitLaws as base
 use Rattle.lists.specs.Acl.{Entry}
 use Rattle.records.specs.Crowd.{Member}
 use Rattle.passes.specs.Confinement.{everything}
-use Rattle.passes.specs.Marks.{kept, marksOf}
 use Rattle.masks.specs.KindsAndMasks.{systemSecurity}
-use Rattle.masks.specs.TheTally.{emptied}
 use Rattle.passes.specs.OnePass.{passed}
-use Rattle.passes.specs.NormalEvaluation.{namesOwner, ownerGives, privilegesGive, normalOf}
+use Rattle.passes.specs.NormalEvaluation.{listed, namesOwner, privilegesGive, normalOf}
 use Rattle.passes.proofs.OnePassLaws.{passed-lt}
-use Rattle.passes.proofs.MarksLaws.{run-kept, names-kept}
+use Rattle.passes.proofs.CrowdsLaws.{Alike, normal-alike}
 use Rattle.passes.specs.declared.matching.Hits.{Hits}
-use Rattle.masks.specs.declared.tally.Tally.{Tally}
-use Rattle.policy.specs.Policy.{standingOf}
-use Rattle.policy.specs.Rules.{Lists, rulesOf, resultOf, ruled, judgedBy, ruledFrom, ruledBy, everyRule, someStage}
-use Rattle.policy.specs.ByLengths.{rulesByLengths, keptLists, keptRules}
+use Rattle.policy.specs.Rules.{Lists, resultOf, ruled, judgedBy, ruledFrom, ruledBy, everyRule, someStage}
 use Rattle.policy.specs.declared.rules.Ruled.{Ruled}
-use Rattle.policy.specs.declared.shape.Standing.the-variants.{Sound}
-use Rattle.policy.proofs.PolicyLaws.{sound-by-lengths}
 
 -- ---- tests
 
@@ -146,36 +138,16 @@ module _ (kind : ℕ) (ms : List Member) (h : Hits) (p : ℕ) where
       go true = B.or-lt 32 (st .differ .0) (differ e t) l (B.xor-lt 32 e t (f (r .effective)) (f (r .staged)))
       go false = l
 
-  -- ---- a table that keeps every result
+-- ---- crowds among whom the same SIDs match
 
-  module _ (table : List ℕ) (right : (es : List Entry) → resultOf kind ms h p (kept table es) ≡ resultOf kind ms h p es) where
-    pub judged-kept : (st : Ruled) (r : Lists) → judgedBy kind ms h p st (keptLists table r) ≡ judgedBy kind ms h p st r
-    unfolding judgedBy
-    judged-kept st r = rw (right (r .effective), right (r .staged))
+module _ (ms ns : List Member) (same : Alike ms ns) (kind : ℕ) (h : Hits) (p : ℕ) where
+  judged-alike : (st : Ruled) (r : Lists) → judgedBy kind ms h p st r ≡ judgedBy kind ns h p st r
+  unfolding judgedBy
+  judged-alike st r =
+      rw (normal-alike ms ns same kind h p (listed (r .effective)), normal-alike ms ns same kind h p (listed (r .staged)))
 
-    pub ruled-kept : (st : Ruled) (rs : List Lists) → ruledFrom kind ms h p st (keptRules table rs) ≡ ruledFrom kind ms h p st rs
-    unfolding ruledFrom keptRules
-    ruled-kept st [] = refl
-    ruled-kept st (r ∷ rs) =
-        ap (λ (x : Ruled). ruledFrom kind ms h p x (keptRules table rs)) (judged-kept st r)
-        ∙ ruled-kept (judgedBy kind ms h p st r) rs
-
-    -- what the code finds of an accepted policy
-    pub ruled-by-lengths : (s : List ℕ) → standingOf s ≡ Sound →
-        ruledBy kind ms h p (keptRules table (rulesByLengths s)) ≡ ruledBy kind ms h p (rulesOf s)
-    ruled-by-lengths s sound = ruled-kept (ruled everything 0) (rulesByLengths s) ∙ ap (ruledBy kind ms h p) (sound-by-lengths s sound)
-
-  -- ---- the table of the same crowd
-
-  pub result-kept : (es : List Entry) → resultOf kind ms h p (kept (marksOf ms) es) ≡ resultOf kind ms h p es
-  unfolding normalOf
-  result-kept es =
-      ap₂
-      (λ (t : Tally) (b : Bool). or (t .allowed .0) (or (ownerGives h b) (privilegesGive p)))
-      (run-kept kind ms h es emptied)
-      (names-kept ms es)
-
-  -- `ruled_by`, of an accepted policy and with the table of its crowd, answers what the page says
-  pub ruled-marked : (s : List ℕ) → standingOf s ≡ Sound →
-      ruledBy kind ms h p (keptRules (marksOf ms) (rulesByLengths s)) ≡ ruledBy kind ms h p (rulesOf s)
-  ruled-marked = ruled-by-lengths (marksOf ms) result-kept
+  pub ruled-alike : (st : Ruled) (rs : List Lists) → ruledFrom kind ms h p st rs ≡ ruledFrom kind ns h p st rs
+  unfolding ruledFrom
+  ruled-alike st [] = refl
+  ruled-alike st (r ∷ rs) =
+      ap (λ (x : Ruled). ruledFrom kind ms h p x rs) (judged-alike st r) ∙ ruled-alike (judgedBy kind ns h p st r) rs

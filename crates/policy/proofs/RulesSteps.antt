@@ -15,8 +15,8 @@ use Rattle.passes.specs.OneWalk.{walkedOf, normalBy}
 use Rattle.passes.specs.declared.matching.Hits.{Hits}
 use Rattle.passes.specs.declared.walk.Walked.{Walked}
 use Rattle.policy.specs.Policy.{sectionAt}
-use Rattle.policy.specs.Rules.{Lists, listsOf, resultOf, ruled, judgedBy, ruledFrom}
-use Rattle.policy.specs.ByLengths.{ruleByLengths, rulesByLengthsAt, keptLists, keptRules}
+use Rattle.policy.specs.Rules.{Lists, resultOf, ruled, judgedBy, ruledFrom}
+use Rattle.policy.specs.ByLengths.{ruleByLengths, listsByLengths, rulesByLengthsAt}
 use Rattle.policy.specs.declared.sections.Section.{Section}
 use Rattle.policy.specs.declared.one_rule.Rule.{Rule}
 use Rattle.policy.specs.declared.rules.Ruled.{Ruled}
@@ -48,24 +48,24 @@ module _ (kind : ℕ) (ms : List Member) (h : Hits) (p : ℕ) where
 
   -- ---- the walk over all rules
 
-  module _ (table s : List ℕ) where
+  module _ (s : List ℕ) where
     -- what m rules from a place come to, after those before
     abbrev pub Left : Ruled → ℕ → ℕ → Ruled
-    Left st m at = ruledFrom kind ms h p st (keptRules table (rulesByLengthsAt s m at))
+    Left st m at = ruledFrom kind ms h p st (rulesByLengthsAt s m at)
 
     module _ (st : Ruled) (m k at : ℕ) where
       pub left-end : m ≤ k → Left st (m - k) at ≡ st
-      unfolding rulesByLengthsAt keptRules ruledFrom
+      unfolding rulesByLengthsAt ruledFrom
       left-end l = let z : m - k ≡ 0 = omega arith in rw z
 
       pub left-stop : (r : Rule) → k < m → r ≡ ruleByLengths s at → r .next ≡ 0 → Left st (m - k) at ≡ st
-      unfolding rulesByLengthsAt keptRules ruledFrom
+      unfolding rulesByLengthsAt ruledFrom
       left-stop r l e f = let n : m - k ≡ suc (m - (k + 1)) = omega arith in rw (n, ← e, eq-eqb (r .next) 0 f)
 
       -- one rule more, as the code reads and judges it
       pub left-more : (r : Rule) (next : Ruled) → k < m → r ≡ ruleByLengths s at → (r .next ≡ 0 → ⊥) →
-          next ≡ judgedBy kind ms h p st (keptLists table (listsOf s r)) → Left st (m - k) at ≡ Left next (m - (k + 1)) (r .next)
-      unfolding rulesByLengthsAt keptRules ruledFrom
+          next ≡ judgedBy kind ms h p st (listsByLengths s r) → Left st (m - k) at ≡ Left next (m - (k + 1)) (r .next)
+      unfolding rulesByLengthsAt ruledFrom
       left-more r next l e f g =
           let n : m - k ≡ suc (m - (k + 1)) = omega arith in
           rw (n, ← e, ne-eqb (r .next) 0 f, g)

@@ -1,13 +1,13 @@
--- How the code goes about it: a policy whose shape is judged already is walked once more, by the lengths of its sections alone. Nothing
--- here decides an answer; PolicyLaws shows that an accepted policy's rules are found so, RulesLaws that a right table changes no result.
+-- How the code goes about it: a policy whose shape is judged already is walked once more, by the lengths of its sections and of their entries
+-- alone. Nothing here decides an answer; PolicyLaws shows that an accepted policy's rules are found so.
 use Prim.Native.Nat.{ℕ, zero, suc}
 use mathlib.Core.List.{List, [], _∷_}
 use mathlib.Core.Bool.{false, cond}
-use lib.Dec.{eqb}
+use lib.Dec.{ltb, eqb}
 use Rattle.base.specs.Bytes.{u32At}
-use Rattle.passes.specs.Marks.{kept}
-use Rattle.policy.specs.Policy.{sectionAt}
-use Rattle.policy.specs.Rules.{Lists, listsOf}
+use Rattle.lists.specs.ByLength.{entriesByLength}
+use Rattle.policy.specs.Policy.{bytesOf, sectionAt}
+use Rattle.policy.specs.Rules.{Lists}
 use Rattle.policy.specs.declared.one_rule.Rule.{Rule}
 
 -- the five sections from a place, their lists not scanned
@@ -19,19 +19,23 @@ ruleByLengths s at =
     let staged = sectionAt s (sacl .to) in
     record { next = sectionAt s (staged .to) .to; unread = false; effective = dacl; staged = staged }
 
+-- what a rule says, its entries found by their lengths
+abbrev pub listsByLengths : List ℕ → Rule → Lists
+listsByLengths s r =
+    record {
+      effective = entriesByLength (bytesOf s (r .effective));
+      stages = ltb (r .staged .from) (r .staged .to);
+      staged = entriesByLength (bytesOf s (r .staged));
+    }
+
 -- the n rules from a place; they stop where a section does not fit
 unfoldable pub rulesByLengthsAt : List ℕ → ℕ → ℕ → List Lists
 rulesByLengthsAt s zero at = []
-rulesByLengthsAt s (suc n) at = let r = ruleByLengths s at in let q = listsOf s r ∷ rulesByLengthsAt s n (r .next) in cond (eqb (r .next) 0) [] q
+rulesByLengthsAt s (suc n) at =
+    let r = ruleByLengths s at in
+    let q = listsByLengths s r ∷ rulesByLengthsAt s n (r .next) in
+    cond (eqb (r .next) 0) [] q
 
 -- an empty policy reads as one of no rules
 abbrev pub rulesByLengths : List ℕ → List Lists
 rulesByLengths s = rulesByLengthsAt s (u32At s 1) 5
-
--- what is left of a rule's lists by the table that dismisses strangers
-abbrev pub keptLists : List ℕ → Lists → Lists
-keptLists table r = record { effective = kept table (r .effective); stages = r .stages; staged = kept table (r .staged) }
-
-unfoldable pub keptRules : List ℕ → List Lists → List Lists
-keptRules table [] = []
-keptRules table (r ∷ rs) = keptLists table r ∷ keptRules table rs

@@ -1,14 +1,11 @@
 // What the rules of a policy leave. The policy's shape is judged elsewhere: here its rules are
 // found by the lengths of their sections, and each list is walked once.
 ghost use mathlib.Core.Path.{_≡_};
-ghost use mathlib.Core.Bool.{true};
-ghost use Rattle.lists.specs.Acl.{entriesOf};
-ghost use Rattle.records.specs.Crowd.{crowdAt};
-ghost use Rattle.passes.specs.Marks.{kept};
+ghost use Rattle.lists.specs.ByLength.{entriesByLength};
+ghost use Rattle.passes.specs.Chains.{shown};
 ghost use Rattle.policy.specs.Policy.{Placed};
-ghost use Rattle.policy.specs.Rules.{listsOf, resultOf, judgedBy, ruledBy};
-ghost use Rattle.policy.specs.ByLengths.{ruleByLengths, rulesByLengths};
-ghost use Rattle.policy.specs.ByLengths.{keptLists, keptRules};
+ghost use Rattle.policy.specs.Rules.{resultOf, judgedBy, ruledBy};
+ghost use Rattle.policy.specs.ByLengths.{ruleByLengths, listsByLengths, rulesByLengths};
 use crate::one_rule::Rule;
 use crate::sections::section_at;
 use lists::Rights;
@@ -44,17 +41,18 @@ fn result(
     list: &[u8],
     kind: u32,
     listing: &[u8],
-    at: usize,
-    table: &[u8; 4096],
+    heads: &[u16; 512],
+    seats: &[u32; 258],
     hits: Hits,
     privileges: u64,
 ) -> Rights
     ensures { λ r. ⌜
-        r .0 ≡ resultOf kind (crowdAt true (now (listing .entry)) at) hits privileges
-        (kept (now (table .entry)) (entriesOf (now (list .entry))))
+        r .0 ≡ resultOf kind
+        (shown (now (heads .entry)) (now (seats .entry)) (now (listing .entry)))
+        hits privileges (entriesByLength (now (list .entry)))
         ⌝ }
 {
-    let walked = passes::pass(kind, list, listing, at, true, table, hits);
+    let walked = passes::pass(kind, list, listing, heads, seats, hits);
     passes::normal(kind, true, walked, hits, privileges)
 }
 
@@ -65,26 +63,35 @@ fn judged(
     before: Ruled,
     kind: u32,
     listing: &[u8],
-    at: usize,
-    table: &[u8; 4096],
+    heads: &[u16; 512],
+    seats: &[u32; 258],
     hits: Hits,
     privileges: u64,
 ) -> Ruled
     requires { ⌜ Placed (now s) r ⌝ }
     ensures { λ q. ⌜
-        q ≡ judgedBy kind (crowdAt true (now (listing .entry)) at) hits privileges before
-        (keptLists (now (table .entry)) (listsOf (now (s .entry)) r))
+        q ≡ judgedBy kind
+        (shown (now (heads .entry)) (now (seats .entry)) (now (listing .entry)))
+        hits privileges before (listsByLengths (now (s .entry)) r)
         ⌝ }
 {
     let left = before.left;
     let differ = before.differ;
     let from = r.effective.from;
     let to = r.effective.to;
-    let e = result(&s[from..to], kind, listing, at, table, hits, privileges);
+    let e = result(&s[from..to], kind, listing, heads, seats, hits, privileges);
     let start = r.staged.from;
     let end = r.staged.to;
     if start < end {
-        let q = result(&s[start..end], kind, listing, at, table, hits, privileges);
+        let q = result(
+            &s[start..end],
+            kind,
+            listing,
+            heads,
+            seats,
+            hits,
+            privileges,
+        );
         return Ruled {
             left: Rights(left.0 & e.0),
             differ: Rights(differ.0 | (e.0 ^ q.0)),
@@ -96,20 +103,21 @@ fn judged(
     }
 }
 
-// What all rules of a policy leave, for the crowd at a place of a listing; `table` and `hits` are
-// those of the same crowd.
+// What all rules of a policy leave, for those whom the tables of chains show; `hits` are those of the
+// same crowd.
 pub fn ruled_by(
     s: &[u8],
     kind: u32,
     listing: &[u8],
-    at: usize,
-    table: &[u8; 4096],
+    heads: &[u16; 512],
+    seats: &[u32; 258],
     hits: Hits,
     privileges: u64,
 ) -> Ruled
     ensures { λ r. ⌜
-        r ≡ ruledBy kind (crowdAt true (now (listing .entry)) at) hits privileges
-        (keptRules (now (table .entry)) (rulesByLengths (now (s .entry))))
+        r ≡ ruledBy kind
+        (shown (now (heads .entry)) (now (seats .entry)) (now (listing .entry)))
+        hits privileges (rulesByLengths (now (s .entry)))
         ⌝ }
 {
     let n = base::u32_at(s, 1);
@@ -126,7 +134,7 @@ pub fn ruled_by(
         if next == 0 {
             return so_far;
         }
-        so_far = judged(s, r, so_far, kind, listing, at, table, hits, privileges);
+        so_far = judged(s, r, so_far, kind, listing, heads, seats, hits, privileges);
         place = next;
         k += 1;
     }

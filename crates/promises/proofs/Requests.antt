@@ -6,13 +6,14 @@
 -- the owner's two rights away, `listGives`, what it allows by itself, `normalOf`, what normal evaluation gives with it
 -- (passes/specs/NormalEvaluation.antt); `OwnerEntry`, `GoesBy`, `OwnerAsks`, `ownersRights`, `itsList`, `byObject`
 -- (demands/specs/OwnerEntries.antt); `number`, a number of at most so many bits at a place with the place after it, or none
--- (base/specs/Sevens.antt). Assumes nothing.
-use Prim.Native.Nat.{ℕ, _+_, _<_, _≤_}
+-- (base/specs/Sevens.antt); `crowdAt`, whom a listing shows at a place (records/specs/Crowd.antt); `among`, whether one of them has a SID and
+-- matches (passes/specs/Matching.antt); `chainsOf`, `shown` (passes/specs/Chains.antt). Assumes nothing.
+use Prim.Native.Nat.{ℕ, _+_, _*_, _<_, _≤_}
 use mathlib.Core.Path.{_≡_}
 use mathlib.Core.List.{List}
-use mathlib.Core.Bool.{true}
+use mathlib.Core.Bool.{Bool, true}
 use mathlib.Core.Logic.{_↔_}
-use lib.ListN.{length, take}
+use lib.ListN.{length, getD, take}
 use Rattle.base.specs.Bits.{and, Within}
 use Rattle.base.specs.Bytes.{byteAt, u16At}
 use Rattle.base.specs.Bytes.Read.{some}
@@ -25,14 +26,24 @@ use Rattle.base.proofs.LongerLaws as longer
 use Rattle.lists.specs.Acl.{Entry, entryEnd, scanOf, entriesOf}
 use Rattle.lists.specs.Spare.{LongEnough, saidAt, SameButSpare}
 use Rattle.lists.specs.declared.acl.Scan.the-variants.{Plain}
+use Rattle.lists.specs.ByLength.{entriesByLength}
+use Rattle.lists.proofs.ByLengthLaws as lengths
 use Rattle.lists.proofs.SpareLaws as spare
 use Rattle.lists.proofs.AlikeLaws as alike
 use Rattle.reader.specs.Reading.{held, readAll}
 use Rattle.reader.proofs.ReadingLaws as reading
-use Rattle.records.specs.Crowd.{Member}
+use Rattle.records.specs.Token.{Token}
+use Rattle.records.specs.Shaped.{Shaped}
+use Rattle.records.specs.TokenRecord.{recordOf}
+use Rattle.records.specs.FlatListing.{listingOf}
+use Rattle.records.specs.Crowd.{Member, crowdAt}
+use Rattle.records.proofs.TwiceLaws as twice
 use Rattle.masks.specs.KindsAndMasks.{asked}
+use Rattle.passes.specs.Chains.{shown, Tables, tables, chainsOf}
+use Rattle.passes.specs.Matching.{among}
 use Rattle.passes.specs.NormalEvaluation.{Dacl, namesOwner, listGives, normalOf}
 use Rattle.passes.specs.declared.matching.Hits.{Hits}
+use Rattle.passes.proofs.LinkLaws as links
 use Rattle.access.specs.Status.{Question, checked}
 use Rattle.demands.specs.Accepted.{Accepted}
 use Rattle.demands.specs.LongEntries.{ReadTheSame}
@@ -108,3 +119,20 @@ one-byte = steps.number-alone
 -- one-byte number is read
 pub more-bytes : (bits : ℕ) (s : List ℕ) (at v n : ℕ) → 128 ≤ byteAt s at → number bits s at ≡ some v n → (128 ≤ v) × (at + 1 < n)
 more-bytes = longer.longer-found
+
+-- ---- Speed. No answer changes; what the quicker ways lean on
+-- The chains of a crowd, in tables that were clear, show exactly that crowd: a SID matches one of those whom they show where it matches one of
+-- the crowd, for allow and for deny. The crowd of an accepted token has at most 257, in at most 22,940 bytes
+pub chains-show : (heads seats : List ℕ) → ((k : ℕ) → getD heads k 0 ≡ 0) → length heads ≡ 512 → length seats ≡ 258 →
+    (attrs : Bool) (s : List ℕ) (at : ℕ) → length s ≤ 32768 → length (crowdAt attrs s at) ≤ 257 →
+    (t : Tables) → t ≡ chainsOf attrs s at (tables heads seats) → (allow : Bool) (w : List ℕ) →
+    among allow (shown (t .heads) (t .seats) s) w ≡ among allow (crowdAt attrs s at) w
+chains-show = links.chains-say
+
+-- The entries of a list that scans plain are found by their sizes and the counts of their SIDs alone
+pub by-length : (l : List ℕ) → scanOf true l ≡ Plain → entriesByLength l ≡ entriesOf l
+by-length = lengths.entries-by-length
+
+-- A record is at most twice as long as its listing
+pub record-twice : (t : Token) → Shaped t → length (recordOf t) ≤ 2 * length (listingOf t)
+record-twice = twice.record-twice

@@ -17,6 +17,8 @@ pub mod LengthLaws
 pub mod LimitLaws
 -- tokens that are as long
 pub mod LargestLaws
+-- a record beside its listing
+pub mod TwiceLaws
 -- a listing shows whom its token shows
 pub mod CrowdLaws
 -- what is packed, step by step
@@ -25,11 +27,17 @@ pub mod PackLaws
 pub mod PackRecordLaws
 -- what is packed of a listing is its token's record
 pub mod PackedLaws
+-- the head of a SID in one number
+pub mod HeadLaws
 -- what readings in a row come to
 pub mod UnpackLaws
 -- what a step comes to, as the code answers it
 pub mod StepLaws
+-- the room for what is unpacked
+pub mod RoomLaws
 -- a packed record as the bytes of its listing
 pub mod RecordBytes
+-- what is said of the token rules
+pub mod CleanLaws
 -- what the whole record comes to
 pub mod RecordAnswer

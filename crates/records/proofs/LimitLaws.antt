@@ -54,7 +54,7 @@ accepted-listing-short t o e = accepted-short flat-longest t o e
 
 -- ---- the record
 
-words-short : (n : ℕ) (w : List ℕ) (at : ℕ) → Identity w → length (packedWords n w at) ≤ n * 5
+pub words-short : (n : ℕ) (w : List ℕ) (at : ℕ) → Identity w → length (packedWords n w at) ≤ n * 5
 words-short n w at o =
     let a = each-short packed 5 (λ v h. packed-length 4 v (omega arith) (omega arith)) (wordsAt n w at) (words-fit n w at (o .bytes)) in
     rw (words-packed n w at) (rw length-words at a)

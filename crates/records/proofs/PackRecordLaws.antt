@@ -40,33 +40,35 @@ module _ (s : List ℕ) (f p : ℕ) (flags : f ≡ u32At s 0) (privileges : p �
   unfolding recordBytes
   record-is = rw (flags, privileges)
 
-  module _ (room : length (recordBytes s) ≤ 28021) where
-    pub record-room-1 : 0 + length (packed 1) ≤ 28021
-    record-room-1 = room-first 0 28021 (packed 1) (packed f ++ (packed p ++ people)) (let e = ap length record-is in omega (arith, e, room))
+  module _ (l0 : List ℕ) (room : length (recordBytes s) ≤ length l0) where
+    pub record-room-1 : 0 + length (packed 1) ≤ length l0
+    record-room-1 =
+        let e = ap length record-is in
+        room-first 0 (length l0) (packed 1) (packed f ++ (packed p ++ people)) (omega (arith, e, room))
 
-    module _ {l0 l1 : List ℕ} {a : ℕ} (first : Wrote l0 l1 0 a (packed 1)) where
-      rest-1 : a + length (packed f ++ (packed p ++ people)) ≤ 28021
+    module _ {l1 : List ℕ} {a : ℕ} (first : Wrote l0 l1 0 a (packed 1)) where
+      rest-1 : a + length (packed f ++ (packed p ++ people)) ≤ length l1
       rest-1 = room-after (packed f ++ (packed p ++ people)) first (let e = ap length record-is in omega (arith, e, room))
 
-      pub record-room-2 : a + length (packed f) ≤ 28021
-      record-room-2 = room-first a 28021 (packed f) (packed p ++ people) rest-1
+      pub record-room-2 : a + length (packed f) ≤ length l1
+      record-room-2 = room-first a (length l1) (packed f) (packed p ++ people) rest-1
 
       module _ {l2 : List ℕ} {b : ℕ} (second : Wrote l1 l2 a b (packed f)) where
-        rest-2 : b + length (packed p ++ people) ≤ 28021
+        rest-2 : b + length (packed p ++ people) ≤ length l2
         rest-2 = room-after (packed p ++ people) second rest-1
 
-        pub record-room-3 : b + length (packed p) ≤ 28021
-        record-room-3 = room-first b 28021 (packed p) people rest-2
+        pub record-room-3 : b + length (packed p) ≤ length l2
+        record-room-3 = room-first b (length l2) (packed p) people rest-2
 
         module _ {l3 : List ℕ} {c : ℕ} (third : Wrote l2 l3 b c (packed p)) where
-          rest-3 : c + length (crowdBytes true s 12 ++ restBytes (confined f) s) ≤ 28021
+          rest-3 : c + length (crowdBytes true s 12 ++ restBytes (confined f) s) ≤ length l3
           rest-3 = room-after people third rest-2
 
-          pub record-room-4 : c + length (crowdBytes true s 12) ≤ 28021
-          record-room-4 = room-first c 28021 (crowdBytes true s 12) (restBytes (confined f) s) rest-3
+          pub record-room-4 : c + length (crowdBytes true s 12) ≤ length l3
+          record-room-4 = room-first c (length l3) (crowdBytes true s 12) (restBytes (confined f) s) rest-3
 
           module _ {l4 : List ℕ} {d : ℕ} (fourth : Wrote l3 l4 c d (crowdBytes true s 12)) where
-            pub record-room-5 : (e : ℕ) → e ≡ crowdEnd true s 12 → confined f ≡ true → d + length (crowdBytes false s e) ≤ 28021
+            pub record-room-5 : (e : ℕ) → e ≡ crowdEnd true s 12 → confined f ≡ true → d + length (crowdBytes false s e) ≤ length l4
             record-room-5 e h t = rw (rest-crowd (confined f) s e t h) (room-after (restBytes (confined f) s) fourth rest-3)
 
             wrote-people : {l5 : List ℕ} {r : ℕ} → Wrote l4 l5 d r (restBytes (confined f) s) → Wrote l0 l5 0 r (recordBytes s)

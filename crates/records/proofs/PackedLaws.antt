@@ -1,6 +1,6 @@
 -- What is packed of a listing, by place, is the record of its token (packed-listing), and the listing can be packed (packable-listing).
--- In order: members of one kind, a crowd, the parts of a listing, the whole. Assumes nothing.
-use Prim.Native.Nat.{ℕ, _+_, _^_, _<_}
+-- In order: members of one kind, a crowd, the parts of a listing, the whole and its length (packed-short, packed-twice). Assumes nothing.
+use Prim.Native.Nat.{ℕ, _+_, _*_, _^_, _<_, _≤_}
 use mathlib.Core.Path.{_≡_, refl, sym, ap, ap₂, _∙_}
 use mathlib.Core.List.{List, [], _∷_, _++_, append-assoc}
 use mathlib.Core.Bool.{Bool, true, false}
@@ -27,6 +27,7 @@ use Rattle.records.specs.Packing.{CrowdStands, doubleAt, restBytes, reco
 use Rattle.records.proofs.IdentityLaws.{sid-end-stands}
 use Rattle.records.proofs.ListingLaws.{double-word-kept}
 use Rattle.records.proofs.LimitLaws.{record-short}
+use Rattle.records.proofs.TwiceLaws.{record-twice}
 use Rattle.records.proofs.CrowdLaws.{word-stands, sid-part-stands, sid-end-pos, Shows, group-shows, plain-shows, flags-listed}
 use Rattle.records.proofs.CrowdLaws.{rest-stands, crowd-stand, confinement-stand}
 
@@ -141,10 +142,12 @@ module _ (t : Token) (o : Shaped t) where
       rw (flags-listed t o, privileges-packed, crowd-of .0, rest-of (confined (t .flags)) refl)
       (simp append-assoc)
 
+  -- how long it gets
+  pub packed-short : length (recordBytes (listingOf t)) ≤ 28021
+  packed-short = rw packed-listing (record-short t o)
+
+  pub packed-twice : length (recordBytes (listingOf t)) ≤ 2 * length (listingOf t)
+  packed-twice = rw packed-listing (record-twice t o)
+
   pub packable-listing : Packable (listingOf t)
-  packable-listing =
-      record {
-        room = rw packed-listing (record-short t o);
-        crowd = crowd-of .2;
-        rest = λ e. confined-of (ap confined (sym (flags-listed t o)) ∙ e) .1;
-      }
+  packable-listing = record { crowd = crowd-of .2; rest = λ e. confined-of (ap confined (sym (flags-listed t o)) ∙ e) .1 }

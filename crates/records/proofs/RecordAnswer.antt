@@ -3,7 +3,7 @@
 use Prim.Native.Nat.{ℕ, _+_, _<_}
 use mathlib.Core.Path.{_≡_, refl, sym, ap, _∙_}
 use mathlib.Core.List.{List, _++_}
-use mathlib.Core.Bool.{true, false, not}
+use mathlib.Core.Bool.{Bool, true, false, not, cond}
 use native.Mathlib.Nat.{zero-add}
 use native.Mathlib.Omega.{arith}
 use borrow.Author.Tests.{not-true, not-false, eq-eqb, ne-eqb}
@@ -19,6 +19,7 @@ use Rattle.records.specs.Fields.{peopleAt, ended, fieldsBytes}
 use Rattle.records.specs.TokenRecord.{packedReader, readRecord}
 use Rattle.records.specs.FlatListing.{listingOf}
 use Rattle.records.specs.Unpacking.{written, outcome, limited, peopleCopied, Unpacks, Unpacked}
+use Rattle.records.specs.Clean.{Such, Keeping, ReadKeeping}
 use Rattle.records.specs.Unpacking.Outcome.{refused, done}
 use Rattle.records.proofs.UnpackLaws.{then-some}
 use Rattle.records.proofs.RecordBytes.{listing-is, fields-is}
@@ -50,6 +51,12 @@ module _ (s entry exit : List ℕ) where
         let l : to ≡ 0 + length (listingOf t) = cc in
         let b : exit ≡ sets entry 0 (listingOf t) = cc in
         rw (k, eq-eqb next (length s) h) (l ∙ zero-add (length (listingOf t)), b)
+
+    ended-keeping : (q : Read Token) → outcome (written listingOf q) entry 0 ≡ done exit to next → next ≡ length s → Such Keeping q →
+        ReadKeeping (ended s q)
+    unfolding outcome
+    ended-keeping none e h x = let z : _≡_ {A = ℕ} 0 1 = cc in absurd (omega arith)
+    ended-keeping (some t end) e h x = let k : end ≡ next = cc in rw (k, eq-eqb next (length s) h) x
 
 -- version 1, flags and privileges, as they were read
 pub record Heading (s : List ℕ) (v f p : Num) : Type 0 where
@@ -123,6 +130,15 @@ module _ {s : List ℕ} {v f p : Num} (h : Heading s v f p) where
       pub record-done : next ≡ length s → Unpacks (readRecord s) entry exit to
       record-done k = rw record-people (ended-done s entry exit to next people (people-outcome ∙ e) k)
 
+      pub record-keeping : next ≡ length s → Such Keeping (peopleAt packedReader (f .value) (p .value) s (p .next)) →
+          ReadKeeping (readRecord s)
+      unfolding people
+      record-keeping k x = rw record-people (ended-keeping s entry exit to next people (people-outcome ∙ e) k x)
+
+-- where the buffer is long enough
+pub kept-fit : (fits : Bool) (q : Read Token) → fits ≡ true → ReadKeeping q → ReadKeeping (cond fits q none)
+kept-fit fits q e x = rw e x
+
 -- ---- a refusal leaves the buffer empty
 
 -- a listing has bytes
@@ -130,11 +146,17 @@ listing-some : (t : Token) → 0 < length (listingOf t)
 unfolding listingOf fieldsBytes little
 listing-some t = omega arith
 
-module _ (entry exit : List ℕ) (r : ℕ) where
-  pub unpacked-none : (q : Read Token) → Unpacks q entry exit r → r ≡ 0 → Unpacked q entry (replicate 22940 0) r
-  unpacked-none none u z = (u, refl)
-  unpacked-none (some t end) u z = absurd (omega (arith, u .0, listing-some t))
+-- where the buffer may be too short nothing is read
+pub unpacked-unfit : (fits : Bool) (q : Read Token) (entry exit : List ℕ) → fits ≡ false → exit ≡ replicate (length entry) 0 →
+    Unpacked (cond fits q none) entry exit 0
+unpacked-unfit fits q entry exit e z = rw e (refl, z)
 
-  pub unpacked-some : (q : Read Token) → Unpacks q entry exit r → (r ≡ 0 → ⊥) → Unpacked q entry exit r
+module _ (fits : Bool) (fit : fits ≡ true) (entry exit : List ℕ) (r : ℕ) where
+  pub unpacked-none : (q : Read Token) (last : List ℕ) → Unpacks q entry exit r → r ≡ 0 → last ≡ replicate (length exit) 0 →
+      length exit ≡ length entry → Unpacked (cond fits q none) entry last r
+  unpacked-none none last u z e l = rw fit (u, e ∙ ap (λ (n : ℕ). replicate n 0) l)
+  unpacked-none (some t end) last u z e l = absurd (omega (arith, u .0, listing-some t))
+
+  pub unpacked-some : (q : Read Token) → Unpacks q entry exit r → (r ≡ 0 → ⊥) → Unpacked (cond fits q none) entry exit r
   unpacked-some none u h = absurd (h u)
-  unpacked-some (some t end) u h = u
+  unpacked-some (some t end) u h = rw fit u

@@ -40,7 +40,7 @@ counted-is most (some n b) k l g h e = test (leb n most)
 
 -- ---- groups
 
-group-is : (s : List ℕ) (at : ℕ) → written (groupBytes flatWriter) (groupAt packedReader s at) ≡ memberCopied true s at
+pub group-is : (s : List ℕ) (at : ℕ) → written (groupBytes flatWriter) (groupAt packedReader s at) ≡ memberCopied true s at
 unfolding groupAt
 group-is s at = go (packedIdentity s at)
   where

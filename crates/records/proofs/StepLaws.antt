@@ -21,9 +21,6 @@ module _ (q : Read (List ℕ)) (out : List ℕ) (o : ℕ) (r : Step) (l : List �
   pub step-done : not (r .ok) ≡ false → outcome q out o ≡ done l (r .to) (r .next)
   step-done h = sym is ∙ rw (not-false (r .ok) h)
 
-  pub step-left : not (r .ok) ≡ false → left r l ≡ done l (r .to) (r .next)
-  step-left h = is ∙ step-done h
-
   pub after-refused : (k : ℕ → Read (List ℕ)) → not (r .ok) ≡ true → outcome (then q k) out o ≡ refused
   after-refused k h = then-refused k out o q (step-refused h)
 

@@ -6,10 +6,9 @@ use mathlib.Core.Path.{_≡_, refl, ap, ap₂, _∙_}
 use mathlib.Core.List.{List, [], _∷_, _++_}
 use mathlib.Core.Bool.{Bool, true, false, not}
 use native.Mathlib.Nat.{add-zero}
-use native.Mathlib.Numerals.{add-one}
 use native.Mathlib.Omega.{arith}
 use borrow.Author.Tests.{not-true, not-false, le-leb, lt-leb, eq-eqb, ne-eqb}
-use lib.ListN.{length, set, length-append}
+use lib.ListN.{length, length-append}
 use lib.Seq.{sets}
 use lib.Dec.{leb}
 use Rattle.base.specs.Bytes.{Read, bind, only, little, big}
@@ -18,7 +17,7 @@ use Rattle.base.specs.Bits.{and}
 use Rattle.base.specs.Sevens.{number, numOf}
 use Rattle.base.specs.declared.sevens.Num.{Num}
 use Rattle.base.proofs.ReadLaws.{num-none, num-some}
-use Rattle.base.proofs.WriteLaws.{sets-append, add-two}
+use Rattle.base.proofs.WriteLaws.{sets-append}
 use Rattle.records.specs.Token.{confined}
 use Rattle.records.specs.Fields.{many, each}
 use Rattle.records.specs.Unpacking.{written, then, copied, outcome, limited, wordAt, counted, confinementCopied, restCopied}
@@ -184,7 +183,7 @@ identity-words s n v b =
     ∙ ap (λ (x : Read (List ℕ)). bind x (λ w end. some ((1 ∷ n ∷ big 6 v) ++ w) end))
     (many-copied (number 32) (little 4) wordAt s (λ a. refl) n b)
 
-identity-is : (s : List ℕ) (at : ℕ) →
+pub identity-is : (s : List ℕ) (at : ℕ) →
     packedIdentity s at ≡ bind (limited 15 s at)
     (λ n a. bind (number 48 s a) (λ v b. bind (many (number 32) n s b) (λ ws end. some (1 ∷ n ∷ (big 6 v ++ each (little 4) ws)) end)))
 unfolding packedIdentity
@@ -208,7 +207,7 @@ module _ (s : List ℕ) (at : ℕ) (out : List ℕ) (o : ℕ) (r : Num) (is : r 
 
     pub identity-done : not (t .ok) ≡ false →
         outcome (packedIdentity s at) out o
-        ≡ outcome (copied wordAt (r .value) s (t .next)) (sets (set (set out o 1) (o + 1) (r .value)) (o + 2) (big 6 (t .value))) (o + 8)
+        ≡ outcome (copied wordAt (r .value) s (t .next)) (sets out o (1 ∷ r .value ∷ big 6 (t .value))) (o + 8)
     unfolding big
     identity-done k =
         rw (
@@ -218,4 +217,4 @@ module _ (s : List ℕ) (at : ℕ) (out : List ℕ) (o : ℕ) (r : Num) (is : r 
           identity-words s (r .value)
               (t .value) (t .next),
         )
-        (then-some (copied wordAt (r .value) s) out o (1 ∷ r .value ∷ big 6 (t .value)) (t .next) ∙ simp (add-one, add-two))
+        (then-some (copied wordAt (r .value) s) out o (1 ∷ r .value ∷ big 6 (t .value)) (t .next))

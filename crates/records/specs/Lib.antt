@@ -18,5 +18,7 @@ pub mod TokenRules
 pub mod Converters
 -- what unpacking leaves in a buffer
 pub mod Unpacking
+-- what it says of the token rules
+pub mod Clean
 -- what packing writes, by place
 pub mod Packing

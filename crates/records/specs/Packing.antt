@@ -1,10 +1,9 @@
 -- What is packed of a flat listing, by place: the bytes of a record from the bytes of the listing, with no token between. For the
 -- contracts of the private writers. In a listing that is read these are the bytes of its token's record.
-use Prim.Native.Nat.{ℕ, zero, suc, _+_, _*_, _≤_}
+use Prim.Native.Nat.{ℕ, zero, suc, _+_, _*_}
 use mathlib.Core.Path.{_≡_}
 use mathlib.Core.List.{List, [], _++_}
 use mathlib.Core.Bool.{Bool, true, false}
-use lib.ListN.{length}
 use Rattle.base.specs.Bytes.{u32At, part}
 use Rattle.base.specs.Sevens.{packed}
 use Rattle.lists.specs.Sid.{sidEnd}
@@ -63,7 +62,7 @@ unfoldable pub recordBytes : List ℕ → List ℕ
 recordBytes s =
     packed 1 ++ (packed (u32At s 0) ++ (packed (doubleAt s 4) ++ (crowdBytes true s userPlace ++ restBytes (confined (u32At s 0)) s)))
 
+-- every identity that is packed stands where it is read
 pub record Packable (s : List ℕ) : Type 0 where
-  pub room : length (recordBytes s) ≤ 28021
   pub crowd : CrowdStands true s userPlace
   pub rest : confined (u32At s 0) ≡ true → CrowdStands false s (crowdEnd true s userPlace)

@@ -1,8 +1,9 @@
 -- What unpacking leaves in a buffer: a reading of bytes, written as it goes. For the contracts of the private readers.
-use Prim.Native.Nat.{ℕ, zero, suc, _+_, _*_}
+use Prim.Native.Nat.{ℕ, zero, suc, _+_, _*_, _≤_}
 use mathlib.Core.Path.{_≡_}
 use mathlib.Core.List.{List, [], _++_}
-use mathlib.Core.Bool.{Bool, true, false, cond}
+use mathlib.Core.Logic.{_⊎_}
+use mathlib.Core.Bool.{Bool, true, false, cond, _||_}
 use lib.ListN.{length, replicate}
 use lib.Seq.{sets}
 use lib.Dec.{leb}
@@ -64,6 +65,24 @@ abbrev pub membersRoom : Bool → ℕ → ℕ
 membersRoom true n = 72 * n
 membersRoom false n = 68 * n
 
+-- ---- the room for it
+
+-- from place o of a buffer there is room for what can still be written: for four bytes of each byte of the record that is not read yet,
+-- or for the most that the counts allow
+pub record Roomy (room o size at most : ℕ) : Type 0 where
+  pub fits : (o + 4 * size ≤ room + 4 * at) ⊎ (o + most ≤ room)
+
+-- where a step read anything, it wrote at most so many bytes, and at most four for each byte that it read
+pub record Within (r : Step) (o at most : ℕ) : Type 0 where
+  pub few : r .ok ≡ true → r .to ≤ o + most
+  pub fourfold : r .ok ≡ true → r .to + 4 * at ≤ o + 4 * r .next
+
+-- whether a buffer is long enough for the listing of a record, by their lengths
+abbrev pub roomFits : ℕ → ℕ → Bool
+roomFits room size = leb 22940 room || leb (4 * size) room
+
+-- ---- members, and what follows them
+
 -- a capability count and the capabilities
 abbrev pub capabilitiesCopied : List ℕ → ℕ → Read (List ℕ)
 capabilitiesCopied s at = counted 64 s at (λ n. copied (memberCopied false) n s)
@@ -93,5 +112,5 @@ Unpacks (some t end) entry exit r = (r ≡ length (listingOf t)) × (exit ≡ se
 
 -- the same with a buffer that a refusal leaves empty
 abbrev pub Unpacked : Read Token → List ℕ → List ℕ → ℕ → Type 0
-Unpacked none entry exit r = (r ≡ 0) × (exit ≡ replicate 22940 0)
+Unpacked none entry exit r = (r ≡ 0) × (exit ≡ replicate (length entry) 0)
 Unpacked (some t end) entry exit r = (r ≡ length (listingOf t)) × (exit ≡ sets entry 0 (listingOf t))

@@ -1,6 +1,7 @@
--- Laws of the way from a listing to its record: what the judge says of it, and the answer within a lent buffer. For `to_record`.
+-- Laws of the way from a listing to its record: what the judge says of it and of the record's length, and the answer within a lent buffer.
+-- For `to_record` and `packed_by`.
 -- Assumes nothing.
-use Prim.Native.Nat.{ℕ, _<_, _≤_}
+use Prim.Native.Nat.{ℕ, _*_, _<_, _≤_}
 use mathlib.Core.Path.{_≡_, sym, ap, _∙_}
 use mathlib.Core.List.{List}
 use native.Mathlib.Omega.{arith}
@@ -13,7 +14,7 @@ use Rattle.records.specs.TokenRecord.{recordOf}
 use Rattle.records.specs.Converters.{asRecord, fitted, refusal, result}
 use Rattle.records.specs.Packing.{recordBytes, Packable}
 use Rattle.records.proofs.RoundTrip.{listing-form, converted-kept}
-use Rattle.records.proofs.PackedLaws.{packed-listing, packable-listing}
+use Rattle.records.proofs.PackedLaws.{packed-listing, packed-short, packed-twice, packable-listing}
 use Rattle.tokens.specs.Judging.{judgedOf}
 use Rattle.tokens.specs.declared.judging.Judged.{Judged}
 use Rattle.tokens.proofs.ConvertLaws.{Taken, judged-taken, judged-refused}
@@ -31,7 +32,19 @@ module _ (s : List ℕ) (j : Judged) (bytes : T (areBytes s)) (is : j ≡ judged
       let f = listing-form s (t .token) (t .end) bytes (t .read) in
       rw (f .0) (packable-listing (t .token) (f .1))
 
-  record-of : j .status ≡ 0 → asRecord s ≡ result (recordBytes s)
+  pub judged-short : j .status ≡ 0 → length (recordBytes s) ≤ 28021
+  judged-short h =
+      let t = taken h in
+      let f = listing-form s (t .token) (t .end) bytes (t .read) in
+      rw (f .0) (packed-short (t .token) (f .1))
+
+  pub judged-twice : j .status ≡ 0 → length (recordBytes s) ≤ 2 * length s
+  judged-twice h =
+      let t = taken h in
+      let f = listing-form s (t .token) (t .end) bytes (t .read) in
+      rw (f .0) (packed-twice (t .token) (f .1))
+
+  pub record-of : j .status ≡ 0 → asRecord s ≡ result (recordBytes s)
   unfolding asRecord
   record-of h =
       let t = taken h in
@@ -39,19 +52,19 @@ module _ (s : List ℕ) (j : Judged) (bytes : T (areBytes s)) (is : j ≡ judged
       let e : recordBytes s ≡ recordOf (t .token) = ap recordBytes (f .0) ∙ packed-listing (t .token) (f .1) in
       converted-kept recordOf (readListing s) (t .token) (t .end) (t .read) (t .kept) ∙ ap result (sym e)
 
-  -- ---- the answer within a lent buffer
+  pub fitted-refused : (room : ℕ) → (j .status ≡ 0 → ⊥) → fitted room (asRecord s) ≡ refusal (j .status)
+  unfolding fitted asRecord
+  fitted-refused room h =
+      let r = judged-refused recordOf (readListing s) (λ z. h (status-is ∙ z)) in
+      rw (r .0, le-ltb room 0 (omega arith)) (ap refusal (sym status-is))
 
-  module _ (room : ℕ) where
-    pub fitted-refused : (j .status ≡ 0 → ⊥) → fitted room (asRecord s) ≡ refusal (j .status)
-    unfolding fitted asRecord
-    fitted-refused h =
-        let r = judged-refused recordOf (readListing s) (λ z. h (status-is ∙ z)) in
-        rw (r .0, le-ltb room 0 (omega arith)) (ap refusal (sym status-is))
+-- ---- n bytes within a lent buffer
 
-    pub fitted-longer : (n : ℕ) → j .status ≡ 0 → n ≡ length (recordBytes s) → room < n → fitted room (asRecord s) ≡ refusal 11
-    unfolding fitted
-    fitted-longer n h e k = rw (record-of h, lt-ltb room (length (recordBytes s)) (omega arith))
+module _ (room n : ℕ) (b : List ℕ) (long : n ≡ length b) where
+  pub fitted-longer : room < n → fitted room (result b) ≡ refusal 11
+  unfolding fitted
+  fitted-longer h = rw (lt-ltb room (length b) (omega arith))
 
-    pub fitted-within : (n : ℕ) → j .status ≡ 0 → n ≡ length (recordBytes s) → n ≤ room → fitted room (asRecord s) ≡ result (recordBytes s)
-    unfolding fitted
-    fitted-within n h e k = rw (record-of h, le-ltb room (length (recordBytes s)) (omega arith))
+  pub fitted-within : n ≤ room → fitted room (result b) ≡ result b
+  unfolding fitted
+  fitted-within h = rw (le-ltb room (length b) (omega arith))

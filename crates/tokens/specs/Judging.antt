@@ -1,10 +1,10 @@
 -- What the judge of a flat listing answers, and what it keeps on its walk. `judgedOf` is the answer; the rest is for the contracts of
 -- its parts.
 use Prim.Native.Nat.{ℕ}
-use mathlib.Core.Path.{_≡_}
 use mathlib.Core.List.{List}
 use mathlib.Core.Bool.{Bool, cond, not, _||_}
-use lib.ListN.{length, take}
+use lib.ListN.{length, replicate}
+use lib.Seq.{sets}
 use Rattle.base.specs.Bytes.{Read, bind}
 use Rattle.base.specs.Bytes.Read.{none, some}
 use Rattle.lists.specs.Sid.{virtual}
@@ -12,9 +12,9 @@ use Rattle.records.specs.Token.{Confined, Token, confined, exempt}
 use Rattle.records.specs.Crowd.{confinedPlace}
 use Rattle.records.specs.TokenRules.{virtualIn, lists, allRestricted, keeps}
 use Rattle.records.specs.TokenRecord.{readRecord}
-use Rattle.records.specs.Converters.{asListing}
+use Rattle.records.specs.FlatListing.{listingOf}
+use Rattle.records.specs.Unpacking.{roomFits}
 use Rattle.tokens.specs.declared.flat.Extent.{Extent}
-use Rattle.tokens.specs.declared.flat.Listing.{Listing}
 use Rattle.tokens.specs.declared.judging.Judged.{Judged}
 use Rattle.tokens.specs.declared.judging.Walk.{Walk}
 use Rattle.tokens.specs.declared.judging.Capabilities.{Capabilities}
@@ -53,15 +53,27 @@ confinementBreaks c = virtual (c .identity) || virtualIn (c .capabilities) || no
 abbrev pub restBreaks : ℕ → Confined → Bool
 restBreaks flags c = cond (confined flags) (confinementBreaks c) (exempt flags)
 
--- ---- a record's listing in a buffer of its own
+-- ---- a record's listing in a room that is lent
 
--- status, length and bytes are those of the conversion, and the place is that of the token; all 0 and empty on refusal
-pub record Listed (s : List ℕ) (r : Listing) : Type 0 where
-  pub status : r .status ≡ asListing s .status
-  pub long : r .length ≡ length (asListing s .bytes)
-  pub bytes : take (r .length) (r .bytes) ≡ asListing s .bytes
-  pub place : r .«confined_at» ≡ judgedOf (readRecord s) .«confined_at»
+-- a refusal
+abbrev pub refusedExtent : ℕ → Extent
+refusedExtent n = record { status = n; length = 0; «confined_at» = 0 }
 
--- the same in a room that was lent: an extent and its room, as a listing
-abbrev pub listingIn : Extent → List ℕ → Listing
-listingIn e room = record { status = e .status; length = e .length; «confined_at» = e .«confined_at»; bytes = room }
+-- by what is read of the record: the judge's status and place, and the length of the listing
+unfoldable pub extentOf : Read Token → Extent
+extentOf none = refusedExtent 3
+extentOf (some t end) =
+    let listed : Extent = record { status = 0; length = length (listingOf t); «confined_at» = confinedPlace t } in
+    cond (keeps t) listed (refusedExtent 4)
+
+-- and what the room holds: all zeros, or the listing at the front, whether the token keeps the rules or not
+unfoldable pub holding : Read Token → List ℕ → List ℕ
+holding none room = replicate (length room) 0
+holding (some t end) room = sets room 0 (listingOf t)
+
+-- where the room may be too short nothing is read: 11, and all zeros
+abbrev pub listedIn : ℕ → List ℕ → Extent
+listedIn room s = cond (roomFits room (length s)) (extentOf (readRecord s)) (refusedExtent 11)
+
+abbrev pub roomAfter : List ℕ → List ℕ → List ℕ
+roomAfter s room = holding (cond (roomFits (length room) (length s)) (readRecord s) none) room

@@ -2,9 +2,10 @@
 mod flat;
 mod judging;
 mod pack;
+mod parts;
 
-pub use flat::Listing;
-pub use flat::listing_of;
+pub use flat::Extent;
+pub use flat::list_in;
 pub use flat::to_listing;
 pub use judging::Judged;
 pub use judging::judge;

@@ -1,23 +1,27 @@
 // From a flat listing to a packed record. The listing was judged before, so every part stands where
-// it is read; what is written of it fits, since a record has at most 28,021 bytes.
+// it is read. A record is at most twice as long as its listing, and has at most 28,021 bytes: so
+// what is written of it fits.
 ghost use mathlib.Core.Path.{_≡_};
 ghost use mathlib.Core.Bool.{true};
 ghost use Prim.Native.Nat.{_+_, _*_, _≤_};
 ghost use lib.ListN.{length};
 ghost use lib.Seq.{sets};
-ghost use Rattle.base.specs.Bytes.{u48BeAt};
 ghost use Rattle.base.specs.Sevens.{packed};
 ghost use Rattle.base.specs.Writing.{Wrote};
 ghost use Rattle.lists.specs.Sid.{sidEnd, isSid};
 ghost use Rattle.records.specs.TokenRecord.{packedWords, packIdentity};
-ghost use Rattle.records.specs.Converters.{asRecord, fitted};
+ghost use Rattle.records.specs.Converters.{asRecord, fitted, result};
 ghost use Rattle.records.specs.Packing.{memberBytes, memberEnd, membersBytes, membersEnd};
-ghost use Rattle.records.specs.Packing.{MembersStand, crowdBytes, crowdEnd, CrowdStands, doubleAt};
+ghost use Rattle.records.specs.Packing.{MembersStand, crowdBytes, crowdEnd, CrowdStands};
 ghost use Rattle.records.specs.Packing.{recordBytes, Packable};
 ghost use Rattle.tokens.specs.Answers.{answered};
 use crate::Converted;
 use crate::flat::copy;
 use crate::judging::judge;
+use crate::parts::authority;
+use crate::parts::identity_end;
+use crate::parts::privileges;
+use crate::parts::word;
 use records::Attributes;
 
 // The place after what was read, and after what was written of it.
@@ -26,11 +30,16 @@ pub struct Place {
     pub to: usize,
 }
 
-// Writes a number in sevens at place `o`, shortest form, and answers the place after it.
-fn put(out: &mut [u8; 28021], o: usize, v: u64) -> usize
-    requires { ⌜ o + length (packed v) ≤ 28021 ⌝ }
+// Writes a number in sevens at place `o`, shortest form, and answers the place after it. Most are
+// one byte, which is written at once.
+fn put(out: &mut [u8], o: usize, v: u64) -> usize
+    requires { ⌜ o + length (packed v) ≤ length (now out) ⌝ }
     ensures { λ r. ⌜ Wrote (now (out .entry)) (now (out .exit)) o r (packed v) ⌝ }
 {
+    if v < 128 {
+        out[o] = v as u8;
+        return o + 1;
+    }
     let mut n = v;
     let mut i = o;
     while 128 <= n {
@@ -42,30 +51,16 @@ fn put(out: &mut [u8; 28021], o: usize, v: u64) -> usize
     i + 1
 }
 
-// The six authority bytes of a SID as a number, highest first.
-fn authority(w: &[u8]) -> u64
-    requires { ⌜ 8 ≤ length (now w) ⌝ }
-    ensures { λ r. ⌜ r ≡ u48BeAt (now (w .entry)) 2 ⌝ }
-{
-    let a = base::wide(w[2]) as u64;
-    let b = base::wide(w[3]) as u64;
-    let c = base::wide(w[4]) as u64;
-    let d = base::wide(w[5]) as u64;
-    let e = base::wide(w[6]) as u64;
-    let f = base::wide(w[7]) as u64;
-    f + 256 * e + 65536 * d + 16777216 * c + 4294967296 * b + 1099511627776 * a
-}
-
 // The n words of a SID.
-fn pack_words(w: &[u8], n: usize, out: &mut [u8; 28021], o: usize) -> usize
-    requires { ⌜ (n ≤ 15) × (o + length (packedWords n (now w) 8) ≤ 28021) ⌝ }
+fn pack_words(w: &[u8], n: usize, out: &mut [u8], o: usize) -> usize
+    requires { ⌜ (8 + 4 * n ≤ length (now w)) × (o + length (packedWords n (now w) 8) ≤ length (now out)) ⌝ }
     ensures { λ r. ⌜ Wrote (now (out .entry)) (now (out .exit)) o r (packedWords n (now (w .entry)) 8) ⌝ }
 {
     let mut from: usize = 8;
     let mut to = o;
     let mut more = n;
     while 0 < more {
-        to = put(out, to, base::u32_at(w, from) as u64);
+        to = put(out, to, word(w, from) as u64);
         from += 4;
         more -= 1;
     }
@@ -73,8 +68,8 @@ fn pack_words(w: &[u8], n: usize, out: &mut [u8; 28021], o: usize) -> usize
 }
 
 // An identity: its count, 48-bit authority and words.
-fn pack_identity(w: &[u8], out: &mut [u8; 28021], o: usize) -> usize
-    requires { ⌜ (isSid (now w) ≡ true) × (o + length (packIdentity (now w)) ≤ 28021) ⌝ }
+fn pack_identity(w: &[u8], out: &mut [u8], o: usize) -> usize
+    requires { ⌜ (isSid (now w) ≡ true) × (o + length (packIdentity (now w)) ≤ length (now out)) ⌝ }
     ensures { λ r. ⌜ Wrote (now (out .entry)) (now (out .exit)) o r (packIdentity (now (w .entry))) ⌝ }
 {
     let n = base::wide(w[1]);
@@ -84,20 +79,20 @@ fn pack_identity(w: &[u8], out: &mut [u8; 28021], o: usize) -> usize
 }
 
 // A group's attribute word.
-fn pack_attributes(word: Attributes, out: &mut [u8; 28021], o: usize) -> usize
-    requires { ⌜ o + length (packed (word .0)) ≤ 28021 ⌝ }
+fn pack_attributes(word: Attributes, out: &mut [u8], o: usize) -> usize
+    requires { ⌜ o + length (packed (word .0)) ≤ length (now out) ⌝ }
     ensures { λ r. ⌜ Wrote (now (out .entry)) (now (out .exit)) o r (packed (word .0)) ⌝ }
 {
     put(out, o, word.0 as u64)
 }
 
 // A member at a place: an identity and, where `attrs`, its attribute word.
-fn pack_member(s: &[u8], at: usize, attrs: bool, out: &mut [u8; 28021], o: usize) -> Place
-    requires { ⌜ (sidEnd (now s) at ≡ 0 → ⊥) × (o + length (memberBytes attrs (now s) at) ≤ 28021) ⌝ }
+fn pack_member(s: &[u8], at: usize, attrs: bool, out: &mut [u8], o: usize) -> Place
+    requires { ⌜ (sidEnd (now s) at ≡ 0 → ⊥) × (o + length (memberBytes attrs (now s) at) ≤ length (now out)) ⌝ }
     ensures { λ r. ⌜ Wrote (now (out .entry)) (now (out .exit)) o (r .to) (memberBytes attrs (now (s .entry)) at) ⌝ }
     ensures { λ r. ⌜ r .from ≡ memberEnd attrs (now (s .entry)) at ⌝ }
 {
-    let e = lists::sid_end(s, at);
+    let e = identity_end(s, at);
     let w = &s[at..e];
     let to = pack_identity(w, out, o);
     if !attrs {
@@ -111,15 +106,8 @@ fn pack_member(s: &[u8], at: usize, attrs: bool, out: &mut [u8; 28021], o: usize
 }
 
 // As many members, one after the other.
-fn pack_members(
-    s: &[u8],
-    at: usize,
-    n: usize,
-    attrs: bool,
-    out: &mut [u8; 28021],
-    o: usize,
-) -> Place
-    requires { ⌜ MembersStand attrs n (now s) at × (o + length (membersBytes attrs n (now s) at) ≤ 28021) ⌝ }
+fn pack_members(s: &[u8], at: usize, n: usize, attrs: bool, out: &mut [u8], o: usize) -> Place
+    requires { ⌜ MembersStand attrs n (now s) at × (o + length (membersBytes attrs n (now s) at) ≤ length (now out)) ⌝ }
     ensures { λ r. ⌜ Wrote (now (out .entry)) (now (out .exit)) o (r .to) (membersBytes attrs n (now (s .entry)) at) ⌝ }
     ensures { λ r. ⌜ r .from ≡ membersEnd attrs n (now (s .entry)) at ⌝ }
 {
@@ -137,12 +125,12 @@ fn pack_members(
 
 // An identity, a count and as many members: the user with the groups, or the confinement identity
 // with the capabilities.
-fn pack_crowd(s: &[u8], at: usize, attrs: bool, out: &mut [u8; 28021], o: usize) -> Place
-    requires { ⌜ CrowdStands attrs (now s) at × (o + length (crowdBytes attrs (now s) at) ≤ 28021) ⌝ }
+fn pack_crowd(s: &[u8], at: usize, attrs: bool, out: &mut [u8], o: usize) -> Place
+    requires { ⌜ CrowdStands attrs (now s) at × (o + length (crowdBytes attrs (now s) at) ≤ length (now out)) ⌝ }
     ensures { λ r. ⌜ Wrote (now (out .entry)) (now (out .exit)) o (r .to) (crowdBytes attrs (now (s .entry)) at) ⌝ }
     ensures { λ r. ⌜ r .from ≡ crowdEnd attrs (now (s .entry)) at ⌝ }
 {
-    let e = lists::sid_end(s, at);
+    let e = identity_end(s, at);
     let w = &s[at..e];
     let a = pack_identity(w, out, o);
     let n = base::u32_at(s, e);
@@ -150,18 +138,9 @@ fn pack_crowd(s: &[u8], at: usize, attrs: bool, out: &mut [u8; 28021], o: usize)
     pack_members(s, e + 4, n as usize, attrs, out, b)
 }
 
-// The eight bytes at place 4 as a number.
-fn privileges(s: &[u8]) -> u64
-    ensures { λ r. ⌜ r ≡ doubleAt (now (s .entry)) 4 ⌝ }
-{
-    let low = base::u32_at(s, 4);
-    let high = base::u32_at(s, 8);
-    low as u64 + 4294967296 * (high as u64)
-}
-
 // The whole record of a listing, from the front of the buffer, and its length.
-fn pack(s: &[u8], out: &mut [u8; 28021]) -> usize
-    requires { ⌜ Packable (now s) ⌝ }
+fn pack(s: &[u8], out: &mut [u8]) -> usize
+    requires { ⌜ Packable (now s) × (length (recordBytes (now s)) ≤ length (now out)) ⌝ }
     ensures { λ r. ⌜ Wrote (now (out .entry)) (now (out .exit)) 0 r (recordBytes (now (s .entry))) ⌝ }
 {
     let flags = base::u32_at(s, 0);
@@ -176,8 +155,31 @@ fn pack(s: &[u8], out: &mut [u8; 28021]) -> usize
     q.to
 }
 
+// The record of a listing, packed into `room` and copied to `out`, which is unchanged on refusal:
+// 11 where the record is longer than it.
+fn packed_by(s: &[u8], room: &mut [u8], out: &mut [u8]) -> Converted
+    requires { ⌜ Packable (now s) × (length (recordBytes (now s)) ≤ length (now room)) ⌝ }
+    ensures { λ r. ⌜ r ≡ answered (fitted (length (now (out .entry))) (result (recordBytes (now (s .entry))))) ⌝ }
+    ensures { λ r. ⌜ now (out .exit) ≡ sets (now (out .entry)) 0 (fitted (length (now (out .entry))) (result (recordBytes (now (s .entry)))) .bytes) ⌝ }
+{
+    let n = pack(s, room);
+    if out.len() < n {
+        return Converted {
+            status: 11,
+            length: 0,
+        };
+    }
+    let all = &room[..];
+    copy(&all[0..n], out);
+    Converted {
+        status: 0,
+        length: n,
+    }
+}
+
 // Writes the packed record of a flat listing to `out`, which is unchanged on refusal: 3, 4, or 11
-// where the record is longer than `out`.
+// where the record is longer than `out`. Where `out` is surely long enough the record is packed
+// there, and else in a room that is.
 pub fn to_record(s: &[u8], out: &mut [u8]) -> Converted
     ensures { λ r. ⌜ r ≡ answered (fitted (length (now (out .entry))) (asRecord (now (s .entry)))) ⌝ }
     ensures { λ r. ⌜ now (out .exit) ≡ sets (now (out .entry)) 0 (fitted (length (now (out .entry))) (asRecord (now (s .entry))) .bytes) ⌝ }
@@ -189,17 +191,17 @@ pub fn to_record(s: &[u8], out: &mut [u8]) -> Converted
             length: 0,
         };
     }
-    let mut bytes = [0u8; 28021];
-    let n = pack(s, &mut bytes);
-    if out.len() < n {
+    if s.len() <= out.len() / 2 {
+        let n = pack(s, out);
         return Converted {
-            status: 11,
-            length: 0,
+            status: 0,
+            length: n,
         };
     }
-    copy(&bytes[0..n], out);
-    Converted {
-        status: 0,
-        length: n,
+    if s.len() <= 1024 {
+        let mut small = [0u8; 2048];
+        return packed_by(s, &mut small, out);
     }
+    let mut large = [0u8; 28021];
+    packed_by(s, &mut large, out)
 }

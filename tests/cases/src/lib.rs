@@ -3,13 +3,16 @@
 //! Nothing here reads what it makes, or knows what the answer should be.
 
 mod children;
+pub mod crowds;
 mod damage;
+pub mod decided;
 pub mod hex;
 pub mod make;
 pub mod numbers;
 mod people;
 pub mod random;
 mod rng;
+pub mod rooms;
 mod spare;
 
 pub use rng::Rng;

@@ -2,14 +2,19 @@
 //! that is misshapen.
 
 /// A number in sevens, in its shortest form.
-pub fn sevens(mut n: u64) -> Vec<u8> {
+pub fn sevens(n: u64) -> Vec<u8> {
     let mut out = Vec::new();
+    push_sevens(&mut out, n);
+    out
+}
+
+/// The same behind other bytes.
+fn push_sevens(out: &mut Vec<u8>, mut n: u64) {
     while n > 0x7F {
         out.push(n as u8 | 0x80);
         n >>= 7;
     }
     out.push(n as u8);
-    out
 }
 
 /// S-1-authority-words, in MS-DTYP bytes.
@@ -91,7 +96,11 @@ impl Token {
 
     /// The packed record.
     pub fn record(&self) -> Vec<u8> {
-        self.numbers().into_iter().flat_map(sevens).collect()
+        let mut out = Vec::new();
+        for number in self.numbers() {
+            push_sevens(&mut out, number);
+        }
+        out
     }
 
     /// The flat listing.

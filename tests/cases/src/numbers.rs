@@ -10,6 +10,7 @@ mod token;
 
 use crate::random::Case;
 use crate::rng::Rng;
+pub(crate) use bytes::any;
 use std::ops::Range;
 
 /// Where a number stands.

@@ -2,11 +2,14 @@
 //! spoils some of them.
 
 use crate::children;
+use crate::crowds;
 use crate::damage;
+use crate::decided;
 use crate::make::{self, Question, Token};
 use crate::numbers;
 use crate::people::{self, People};
 use crate::rng::Rng;
+use crate::rooms;
 use crate::spare;
 
 /// One call of the library.
@@ -40,12 +43,39 @@ impl Room {
 /// One case in so many is about numbers. By its own number, so that all others are what they were
 /// without.
 const NUMBERS: u64 = 8;
+/// One in so many has one of these aims, which they take in turn.
+const AIMED: u64 = 16;
+const AIMS: u64 = 3;
+
+/// What some cases are about, each with its turn.
+#[derive(Clone, Copy, Debug, PartialEq, Eq)]
+pub enum About {
+    Rooms(u64),
+    Crowds(u64),
+    Decided(u64),
+}
+
+/// What the case of this number is about, if it has such an aim.
+pub fn about(number: u64) -> Option<About> {
+    let (turn, about) = (number / AIMED / AIMS, number / AIMED % AIMS);
+    (number % AIMED == 3).then_some(match about {
+        0 => About::Rooms(turn),
+        1 => About::Crowds(turn),
+        _ => About::Decided(turn),
+    })
+}
 
 /// Case `number` under `seed`.
 pub fn case(seed: u64, number: u64) -> Case {
     let rng = &mut Rng::new(seed, number);
     if number % NUMBERS == NUMBERS - 1 {
         return numbers::case(rng, number / NUMBERS);
+    }
+    match about(number) {
+        Some(About::Rooms(turn)) => return rooms::case(rng, turn),
+        Some(About::Crowds(turn)) => return crowds::case(rng, turn),
+        Some(About::Decided(turn)) => return decided::case(rng, turn),
+        None => {}
     }
     match rng.below(20) {
         0..=11 => Case::Check(question(rng)),

@@ -3,6 +3,7 @@
 //! other inherit-only entries.
 
 use crate::lists::{self, end_of_sid, entries, List};
+use crate::who::{OWNER_RIGHTS, PRINCIPAL_SELF};
 use pirasteh_cases::make::{self, Question};
 use pirasteh_cases::Rng;
 use pirasteh_reference::{self as reference, Answer};
@@ -33,30 +34,26 @@ pub const COLUMNS: [&str; 3] = ["the descriptor's DACL", "an effective DACL", "a
 /// opposite rule.
 pub type Table = [[u64; 3]; 14];
 
-/// S-1-3-4 and S-1-5-10.
-const OWNER_RIGHTS: [u8; 12] = [1, 1, 0, 0, 0, 0, 0, 3, 4, 0, 0, 0];
-const PRINCIPAL_SELF: [u8; 12] = [1, 1, 0, 0, 0, 0, 0, 5, 10, 0, 0, 0];
-
-fn is_inherit_only(entry: &[u8]) -> bool {
+pub fn is_inherit_only(entry: &[u8]) -> bool {
     entry[1] & 0x08 != 0
 }
 
-fn sid_of(entry: &[u8]) -> &[u8] {
+pub fn sid_of(entry: &[u8]) -> &[u8] {
     end_of_sid(entry).and_then(|end| entry.get(8..end)).unwrap_or_default()
 }
 
-fn mask_of(entry: &[u8]) -> u32 {
+pub fn mask_of(entry: &[u8]) -> u32 {
     u32::from_le_bytes([entry[4], entry[5], entry[6], entry[7]])
 }
 
 /// The owner of an accepted question.
-fn owner_of(q: &Question) -> Option<&[u8]> {
+pub fn owner_of(q: &Question) -> Option<&[u8]> {
     let at = lists::u32_at(&q.descriptor, 4)?;
     let words = usize::from(*q.descriptor.get(at + 1)?);
     q.descriptor.get(at..at + 8 + 4 * words)
 }
 
-fn ask(q: &Question) -> Result<Answer, u32> {
+pub fn ask(q: &Question) -> Result<Answer, u32> {
     reference::check(q.kind, q.mask, &q.token, &q.self_id, &q.descriptor, &q.policy)
 }
 
@@ -103,7 +100,7 @@ fn rows(named: &[&[u8]]) -> [bool; 14] {
 
 /// Whether the answer is another than by the opposite rule: one by which the list's inherit-only
 /// entries for S-1-3-4 count, or, where some do count, one by which they do not.
-fn matters(q: &Question, list: &List, answer: Answer) -> bool {
+pub fn matters(q: &Question, list: &List, answer: Answer) -> bool {
     let Some(owner) = owner_of(q).filter(|&sid| sid != OWNER_RIGHTS && sid != PRINCIPAL_SELF)
     else {
         return false;

@@ -2,14 +2,18 @@
 //! says what does.
 
 use crate::children;
+use crate::crowds;
+use crate::decided;
 use crate::fence;
 use crate::library::{Library, Said};
 use crate::numbers;
+use crate::rooms;
 use crate::spare;
 use pirasteh_cases::hex;
 use pirasteh_cases::make::Question;
 use pirasteh_cases::numbers::Place;
-use pirasteh_cases::random::{self, Case};
+use pirasteh_cases::random::{self, About, Case};
+use pirasteh_cases::rooms::Door;
 use pirasteh_cases::Rng;
 use pirasteh_reference as reference;
 use std::fmt::Debug;
@@ -31,7 +35,8 @@ const STATUS: [&str; 13] = [
     "question file",
 ];
 
-/// What has to be reached besides, and all of `children::ROWS` and of `numbers::Table`.
+/// What has to be reached besides, and all of `children::ROWS` and of the tables of `numbers`,
+/// `rooms`, `crowds` and `decided`.
 const REACHED: [&str; 10] = [
     "accepted, with spare bytes in an entry of the descriptor's DACL",
     "accepted, with spare bytes in an entry of an effective DACL",
@@ -48,6 +53,9 @@ const SPARE_TWIN: usize = 6;
 /// The first of `children::Way`.
 const CHILDREN_TWIN: usize = 7;
 
+/// The aims of `rooms`, `crowds` and `decided` are many: a run of fewer cases is not held to them.
+const ENOUGH_FOR_AIMS: u64 = 500_000;
+
 /// After this many differences the rest is not looked at.
 const ENOUGH: u32 = 5;
 
@@ -57,6 +65,9 @@ struct Tally {
     reached: [u64; 10],
     children: children::Table,
     numbers: numbers::Table,
+    rooms: rooms::Table,
+    crowds: crowds::Table,
+    decided: decided::Table,
     checks: u64,
     files: u64,
     records: u64,
@@ -91,7 +102,12 @@ pub fn many(seed: u64, count: u64) -> bool {
     if !missing.is_empty() {
         println!("never reached: status {missing:?}. More cases, or another seed?");
     }
-    let unreached = tally.unreached();
+    let mut unreached = tally.unreached();
+    if count >= ENOUGH_FOR_AIMS {
+        unreached.extend(tally.aims_unreached());
+    } else {
+        println!("not held to rooms, crowds and decided lists: that takes {ENOUGH_FOR_AIMS} cases");
+    }
     for what in &unreached {
         println!("never reached: {what}. More cases, or another seed?");
     }
@@ -127,6 +143,8 @@ fn compare(
             tally.answer(&expected);
             tally.reach(q, &expected);
             tally.numbers.record(Place::Token, &q.token, expected.err());
+            tally.rooms.record(&q.token, Door::Check, expected.err());
+            tally.aimed(number, q, &expected);
             same(expected, library.check(q, dice))?;
             match expected {
                 Ok(answer) => once_more(library, q, answer, rng, tally),
@@ -138,6 +156,7 @@ fn compare(
             tally.files += 1;
             tally.answer(&expected);
             tally.numbers.file(file, expected.err());
+            tally.rooms.file(file, expected.err());
             same(expected, library.question(file, dice))
         }
         Case::List(record, room) => {
@@ -147,6 +166,7 @@ fn compare(
             tally.records += 1;
             tally.status(expected.as_ref().err());
             tally.numbers.record(Place::Record, record, expected.as_ref().err().copied());
+            tally.rooms.converted(record, room, &expected);
             same(expected.clone(), library.list(record, room, dice))?;
             match expected {
                 // And the way back, into a buffer of just the right length.
@@ -160,6 +180,7 @@ fn compare(
             let expected = lent(result, room);
             tally.listings += 1;
             tally.status(expected.as_ref().err());
+            tally.rooms.listing(listing, room, &expected);
             same(expected.clone(), library.pack(listing, room, dice))?;
             match expected {
                 Ok(record) => same(Ok(listing.clone()), library.list(&record, listing.len(), dice)),
@@ -289,6 +310,17 @@ impl Tally {
         }
     }
 
+    /// Adds an accepted question to the table of what it is about.
+    fn aimed(&mut self, number: u64, q: &Question, expected: &Result<reference::Answer, u32>) {
+        match (random::about(number), *expected) {
+            (Some(About::Crowds(turn)), Ok(answer)) => self.crowds.add(turn, q, answer),
+            (Some(About::Decided(turn)), Ok(answer)) => {
+                decided::add(turn, q, answer, &mut self.decided);
+            }
+            _ => {}
+        }
+    }
+
     /// What should have been reached and was not.
     fn unreached(&self) -> Vec<String> {
         let mut all = Vec::new();
@@ -301,6 +333,14 @@ impl Tally {
             }
         }
         all.extend(self.numbers.unreached());
+        all
+    }
+
+    /// The same of the cases that have an aim.
+    fn aims_unreached(&self) -> Vec<String> {
+        let mut all = self.rooms.unreached();
+        all.extend(self.crowds.unreached());
+        all.extend(decided::unreached(&self.decided));
         all
     }
 
@@ -325,5 +365,8 @@ impl Tally {
             println!("  {descriptor:9} {effective:9} {staged:9}  {name}");
         }
         self.numbers.print();
+        self.rooms.print();
+        self.crowds.print();
+        decided::print(&self.decided);
     }
 }

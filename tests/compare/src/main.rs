@@ -7,12 +7,16 @@
 
 mod children;
 mod compare;
+mod crowds;
+mod decided;
 mod fence;
 mod library;
 mod lists;
 mod numbers;
+mod rooms;
 mod spare;
 mod vectors;
+mod who;
 
 use std::env;
 use std::process::exit;

@@ -43,6 +43,11 @@ impl Default for Table {
     }
 }
 
+/// Where the token of a question file is, as far as that goes.
+pub fn token_of(file: &[u8]) -> std::ops::Range<usize> {
+    Walk::of_file(file).1
+}
+
 /// What a door is called.
 fn name(door: Door) -> String {
     let place = match door.place {

@@ -3,6 +3,8 @@
 
 mod children;
 mod confinement;
+mod crowds;
+mod decided;
 mod identities;
 mod numbers;
 mod rights;
@@ -30,5 +32,7 @@ pub fn cases() -> Vec<Case> {
     all.extend(walks::cases());
     all.extend(confinement::cases());
     all.extend(numbers::cases());
+    all.extend(crowds::cases());
+    all.extend(decided::cases());
     all
 }

@@ -1,6 +1,7 @@
 //! Conversions, both ways.
 
 mod numbers;
+mod rooms;
 
 use crate::case::*;
 use pirasteh_cases::hex;
@@ -36,6 +37,7 @@ pub fn cases() -> Vec<Case> {
     all.extend(records());
     all.extend(listings());
     all.extend(numbers::cases());
+    all.extend(rooms::cases());
     all
 }
 

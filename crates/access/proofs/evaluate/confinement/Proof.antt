@@ -1,12 +1,10 @@
 -- `confinement` meets its contract: it takes no bit from a token that is not confined or is exempt, and else leaves what the list gives.
 -- Assumes nothing.
-use mathlib.Core.Path.{sym, ap, _∙_}
+use mathlib.Core.Path.{refl, sym, ap, _∙_}
 use mathlib.Core.Bool.{false}
 use borrow.Author.Tests.{not-true, not-false}
-use Rattle.records.specs.Crowd.{crowdAt}
-use Rattle.passes.specs.Matching.{hitsOf}
 use Rattle.passes.specs.Confinement.{confines}
-use Rattle.access.proofs.EvaluatingSteps.{not-confined, is-confined, listed-walked}
+use Rattle.access.proofs.EvaluatingSteps.{not-confined, is-confined, crowd-shown, listed-walked}
 use borrow.Author.Needs.{needs}
 use Rattle.access.proofs.evaluate.confinement.Statement.{statement}
 use Rattle.access.proofs.evaluate.confinement.Tie as tie
@@ -25,8 +23,8 @@ returns c =
     let off = ap confines (sym (u .ensures)) ∙ sym (f .ensures) ∙ not-true (f .result) (c .if1 .taken) in
     sym (not-confined (a .kind) (a .listing .now) (a .place) (a .owner .now) (a .me .now) (a .present) (a .list .now) off)
 
-marks-requires : tie.Need-marks-requires
-marks-requires c κs = search needs
+chain-crowd-requires : tie.Need-chain-crowd-requires
+chain-crowd-requires c κs = search needs
 
 hits-requires : tie.Need-hits-requires
 hits-requires c κs = search needs
@@ -39,18 +37,21 @@ listed-requires c κs = search needs
 
 returns-2 : tie.Need-returns-2
 returns-2 c =
-    let by-pass = c .before in
-    let by-hits = by-pass .before .before in
-    let by-marks = by-hits .before in
-    let confined = by-marks .before in
-    let f = confined .before .confines in
-    let u = confined .before .before .u32-at in
-    let a = confined .before .before .before .before .before .before .before .args in
-    let ms = crowdAt false (a .listing .now) (a .place) in
-    let on = ap confines (sym (u .ensures)) ∙ sym (f .ensures) ∙ not-false (f .result) (confined .if1 .left) in
+    let p = c .before .pass in
+    let h = c .before .before .before .before .hits in
+    let k = c .before .before .before .before .before .before .before .chain-crowd in
+    let f = c .before .before .before .before .before .before .before .before .before .before .before .confines in
+    let u = c .before .before .before .before .before .before .before .before .before .before .before .before .u32-at in
+    let s = c .before .before .before .before .before .before .before .before .before .before .before .before .before .before .before
+    .before .before in
+    let a = s .args in
+    let on = ap confines (sym (u .ensures)) ∙ sym (f .ensures) ∙ not-false (f .result)
+    (c .before .before .before .before .before .before .before .before .before .before .if1 .left) in
+    let alike = crowd-shown false (a .listing .now) (a .place) (s .pre .0) (s .pre .1 .1) _ _ _ _ refl refl (k .ensures .0)
+    (k .ensures .1) in
     c .listed .ensures
-    ∙ rw (by-pass .pass .ensures, by-hits .hits .ensures, by-marks .marks .ensures)
-    (listed-walked (a .kind) (a .present) ms (hitsOf ms (a .owner .now) (a .me .now)) (a .list .now))
+    ∙ listed-walked (a .kind) _ _ alike (a .owner .now) (a .me .now) (a .present) (a .list .now) (h .result) (p .result) (h .ensures)
+    (p .ensures)
     ∙ sym (is-confined (a .kind) (a .listing .now) (a .place) (a .owner .now) (a .me .now) (a .present) (a .list .now) on)
 
 pub confinement-spec : {M : Type 1} → statement M
@@ -60,7 +61,7 @@ confinement-spec =
     u32-at-requires
     confines-requires
     returns
-    marks-requires
+    chain-crowd-requires
     hits-requires
     pass-requires
     listed-requires

@@ -1,16 +1,16 @@
--- `found_in` meets its contract: each of the three evaluations is its callee's, over one table and one pair of hits.
+-- `found_in` meets its contract: each of the three evaluations is its callee's, over one pair of tables and one pair of hits.
 -- Assumes nothing.
-use mathlib.Core.Path.{_∙_}
-use Rattle.passes.specs.Matching.{hitsOf}
+use mathlib.Core.Path.{refl, _∙_}
+use mathlib.Core.Bool.{true}
+use Rattle.records.specs.Crowd.{userPlace}
 use Rattle.policy.specs.ByLengths.{rulesByLengths}
-use Rattle.access.specs.Evaluating.{crowdIn, privilegesIn}
-use Rattle.access.proofs.EvaluatingSteps.{normal-walked, rules-kept, found-made}
+use Rattle.access.proofs.EvaluatingSteps.{crowd-shown, normal-walked, rules-shown, found-made}
 use borrow.Author.Needs.{needs}
 use Rattle.access.proofs.evaluate.found_in.Statement.{statement}
 use Rattle.access.proofs.evaluate.found_in.Tie as tie
 
-marks-requires : tie.Need-marks-requires
-marks-requires c κs = search needs
+chain-crowd-requires : tie.Need-chain-crowd-requires
+chain-crowd-requires c κs = search needs
 
 hits-requires : tie.Need-hits-requires
 hits-requires c κs = search needs
@@ -28,36 +28,41 @@ normal-requires : tie.Need-normal-requires
 normal-requires c κs = search needs
 
 confinement-requires : tie.Need-confinement-requires
-confinement-requires c κs = search needs
+confinement-requires c κs = c .before .before .before .before .before .before .before .before .before .before .before .before .before
+    .before .before .before .pre
 
 ruled-by-requires : tie.Need-ruled-by-requires
 ruled-by-requires c κs = search needs
 
 returns : tie.Need-returns
 returns c =
-    let by-rules = c .before .before .before .before .before in
-    let by-confinement = by-rules .before .before in
-    let by-pass = by-confinement .before .before in
-    let by-word = by-pass .before .before in
-    let by-hits = by-word .before in
-    let by-marks = by-hits .before in
-    let a = by-marks .before .before .before .before .before .before .args in
+    let r = c .before .before .before .before .before .ruled-by in
+    let n = c .before .before .before .before .before .before .before .before .before .normal in
+    let p = c .before .before .before .before .before .before .before .before .before .before .pass in
+    let u = c .before .before .before .before .before .before .before .before .before .before .before .before .before .u32-at in
+    let h = c .before .before .before .before .before .before .before .before .before .before .before .before .before .before .hits in
+    let k = c .before .before .before .before .before .before .before .before .before .before .before .before .before .before .before
+    .before .before .chain-crowd in
+    let s = c .before .before .before .before .before .before .before .before .before .before .before .before .before .before .before
+    .before .before .before .before .before .before .before .before .before .before in
+    let a = s .args in
     let l = a .listing .now in
-    let h = hitsOf (crowdIn l) (a .owner .now) (a .me .now) in
+    let alike = crowd-shown true l userPlace (s .pre .0) (s .pre .1 .0) _ _ _ _ refl refl (k .ensures .0) (k .ensures .1) in
     found-made (a .kind) l (a .place) (a .owner .now) (a .me .now) (a .present) (a .list .now) (rulesByLengths (a .policy .now)) _ _ _
-    (by-confinement .before .normal .ensures
-    ∙ rw (by-pass .pass .ensures, by-hits .hits .ensures, by-marks .marks .ensures, by-word .u32-at .ensures)
-    (normal-walked (a .kind) (a .present) (crowdIn l) h (privilegesIn l) (a .list .now)))
-    (by-confinement .confinement .ensures)
-    (by-rules .ruled-by .ensures
-    ∙ rw (by-hits .hits .ensures, by-marks .marks .ensures, by-word .u32-at .ensures)
-    (rules-kept (a .kind) (crowdIn l) h (privilegesIn l) (rulesByLengths (a .policy .now))))
+    (n .ensures
+    ∙ normal-walked (a .kind) _ _ alike (a .owner .now) (a .me .now) (a .present) _ (a .list .now) (h .result) (p .result) (h .ensures)
+    (p .ensures)
+    ∙ rw (u .ensures) refl)
+    (c .before .before .before .before .before .before .before .before .confinement .ensures)
+    (rules-shown (a .kind) _ _ alike (a .owner .now) (a .me .now) _ (rulesByLengths (a .policy .now)) (h .result) (r .result) (h .ensures)
+    (r .ensures)
+    ∙ rw (u .ensures) refl)
 
 pub found-in-spec : {M : Type 1} → statement M
 found-in-spec =
     tie.close
     (tie.spec
-    marks-requires
+    chain-crowd-requires
     hits-requires
     u32-at-requires
     cast-privileges

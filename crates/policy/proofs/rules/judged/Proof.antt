@@ -1,10 +1,8 @@
 -- `policy::rules::judged` meets its contract: the rule's effective list, and its staged one where it has one. Assumes nothing.
-use mathlib.Core.Bool.{true}
 use borrow.Author.Tests.{lt-ltb, le-ltb}
 use borrow.Author.Needs.{needs}
-use Rattle.records.specs.Crowd.{crowdAt}
-use Rattle.policy.specs.Rules.{listsOf}
-use Rattle.policy.specs.ByLengths.{keptLists}
+use Rattle.passes.specs.Chains.{shown}
+use Rattle.policy.specs.ByLengths.{listsByLengths}
 use Rattle.policy.proofs.RulesSteps.{judged-plain, judged-staged}
 use Rattle.policy.proofs.rules.judged.Statement.{statement}
 use Rattle.policy.proofs.rules.judged.Tie as tie
@@ -39,8 +37,8 @@ returns c =
     let test = second .before .before in
     let first = test .before in
     let a = first .before .before .before .before .before .before .args in
-    judged-staged (a .kind) (crowdAt true (a .listing .now) (a .at)) (a .hits) (a .privileges) (a .before)
-    (keptLists (a .table .now) (listsOf (a .s .now) (a .r)))
+    judged-staged (a .kind) (shown (a .heads .now) (a .seats .now) (a .listing .now)) (a .hits) (a .privileges) (a .before)
+    (listsByLengths (a .s .now) (a .r))
     (first .result .result .0) (first .result .ensures) (second .result2 .result .0) (second .result2 .ensures)
     (lt-ltb _ _ (test .if1 .taken))
 
@@ -49,8 +47,8 @@ returns-2 c =
     let test = c .before .before in
     let first = test .before in
     let a = first .before .before .before .before .before .before .args in
-    judged-plain (a .kind) (crowdAt true (a .listing .now) (a .at)) (a .hits) (a .privileges) (a .before)
-    (keptLists (a .table .now) (listsOf (a .s .now) (a .r)))
+    judged-plain (a .kind) (shown (a .heads .now) (a .seats .now) (a .listing .now)) (a .hits) (a .privileges) (a .before)
+    (listsByLengths (a .s .now) (a .r))
     (first .result .result .0) (first .result .ensures) (le-ltb _ _ (test .if1 .left))
 
 pub judged-spec : {M : Type 1} → statement M

@@ -2,25 +2,24 @@
 -- so far. The measure is the number of rules ahead. Assumes nothing.
 use Prim.Native.Nat.{ℕ, _-_, _≤_}
 use mathlib.Core.Path.{_≡_, sym, ap, _∙_}
-use mathlib.Core.Bool.{true}
 use native.Mathlib.Omega.{arith}
 use borrow.Author.Needs.{needs}
-use Rattle.records.specs.Crowd.{crowdAt}
+use Rattle.passes.specs.Chains.{shown}
 use Rattle.passes.specs.Confinement.{everything}
 use Rattle.policy.specs.Rules.{ruled, ruledBy}
-use Rattle.policy.specs.ByLengths.{rulesByLengths, keptRules}
+use Rattle.policy.specs.ByLengths.{rulesByLengths}
 use Rattle.policy.proofs.RulesSteps.{Left, left-end, left-stop, left-more}
 use Rattle.policy.proofs.rules.ruled_by.Statement.{statement}
 use Rattle.policy.proofs.rules.ruled_by.Tie as tie
 
 abbrev Inv-loop : tie.InvT-loop
-Inv-loop s kind listing at table hits privileges n so-far₀ place₀ k₀ so-far place k =
+Inv-loop s kind listing heads seats hits privileges n so-far₀ place₀ k₀ so-far place k =
     (k ≤ n)
-    × (ruledBy kind (crowdAt true listing at) hits privileges (keptRules table (rulesByLengths s))
-    ≡ Left kind (crowdAt true listing at) hits privileges table s so-far (n - k) place)
+    × (ruledBy kind (shown heads seats listing) hits privileges (rulesByLengths s)
+    ≡ Left kind (shown heads seats listing) hits privileges s so-far (n - k) place)
 
 abbrev μ-loop : tie.MeasureT-loop
-μ-loop s kind listing at table hits privileges n so-far₀ place₀ k₀ so-far place k = n - k
+μ-loop s kind listing heads seats hits privileges n so-far₀ place₀ k₀ so-far place k = n - k
 
 u32-at-requires : tie.Need-u32-at-requires Inv-loop μ-loop
 u32-at-requires c κs = search needs
@@ -30,8 +29,7 @@ loop-holds c =
     let a = c .before .before .before .args in (
       omega arith,
       ap
-          (λ (m : ℕ). Left (a .kind) (crowdAt true (a .listing .now) (a .at)) (a .hits) (a .privileges) (a .table .now)
-          (a .s .now) (ruled everything 0) m 5)
+          (λ (m : ℕ). Left (a .kind) (shown (a .heads .now) (a .seats .now) (a .listing .now)) (a .hits) (a .privileges) (a .s .now) (ruled everything 0) m 5)
           (omega (arith, c .u32-at .ensures)),
     )
 
@@ -46,8 +44,7 @@ returns c =
     let r = c .before .rule-by-lengths in
     sym
     (i .inv .1
-    ∙ left-stop (a .kind) (crowdAt true (a .listing .now) (a .at)) (a .hits) (a .privileges) (a .table .now)
-    (a .s .now) (i .so-far) (n .u32-at .result) (i .k) (i .place) (r .result) (omega arith) (r .ensures .0) (c .if1 .taken))
+    ∙ left-stop (a .kind) (shown (a .heads .now) (a .seats .now) (a .listing .now)) (a .hits) (a .privileges) (a .s .now) (i .so-far) (n .u32-at .result) (i .k) (i .place) (r .result) (omega arith) (r .ensures .0) (c .if1 .taken))
 
 judged-requires : tie.Need-judged-requires Inv-loop μ-loop
 judged-requires c κs = search needs
@@ -66,8 +63,7 @@ loop-again c =
     let r = c .before .before .rule-by-lengths in (
       omega arith,
       i .inv .1
-          ∙ left-more (a .kind) (crowdAt true (a .listing .now) (a .at)) (a .hits) (a .privileges) (a .table .now)
-          (a .s .now) (i .so-far) (n .u32-at .result) (i .k) (i .place) (r .result) (c .judged .result)
+          ∙ left-more (a .kind) (shown (a .heads .now) (a .seats .now) (a .listing .now)) (a .hits) (a .privileges) (a .s .now) (i .so-far) (n .u32-at .result) (i .k) (i .place) (r .result) (c .judged .result)
           (omega arith) (r .ensures .0) (c .before .if1 .left) (c .judged .ensures),
     )
 
@@ -76,8 +72,7 @@ returns-2 c =
     let i = c .before .loop in
     let n = c .before .before in
     let a = n .before .before .before .args in
-    sym (i .inv .1 ∙ left-end (a .kind) (crowdAt true (a .listing .now) (a .at)) (a .hits) (a .privileges) (a .table .now)
-    (a .s .now) (i .so-far) (n .u32-at .result) (i .k) (i .place) (omega arith))
+    sym (i .inv .1 ∙ left-end (a .kind) (shown (a .heads .now) (a .seats .now) (a .listing .now)) (a .hits) (a .privileges) (a .s .now) (i .so-far) (n .u32-at .result) (i .k) (i .place) (omega arith))
 
 pub ruled-by-spec : {M : Type 1} → statement M
 ruled-by-spec =

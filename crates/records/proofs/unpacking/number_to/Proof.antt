@@ -12,12 +12,12 @@ number32-requires c κs = search needs
 returns : tie.Need-returns
 returns c =
     let n = c .before .before .number32 in
-    (limited-over _ (n .result) _ (n .ensures .0) (c .if1 .taken), omega arith)
+    (limited-over _ (n .result) _ (n .ensures .0) (c .if1 .taken), (omega arith, omega arith))
 
 returns-2 : tie.Need-returns-2
 returns-2 c =
     let n = c .before .before .number32 in
-    (limited-within _ (n .result) _ (n .ensures .0) (c .if1 .left), c .if1 .left)
+    (limited-within _ (n .result) _ (n .ensures .0) (c .if1 .left), (c .if1 .left, omega arith))
 
 pub number-to-spec : {M : Type 1} → statement M
 number-to-spec = tie.close (tie.spec number32-requires returns returns-2)

@@ -1,61 +1,77 @@
--- `to_listing` meets its contract: 11 where the listing is longer than the buffer, else its bytes are copied.
+-- `to_listing` meets its contract: each room is long enough for the record that is listed in it.
 -- Assumes nothing.
-use mathlib.Core.Path.{sym, ap, _∙_}
+use native.Mathlib.Omega.{arith}
 use lib.ListN.{length}
-use lib.Seq.{sets}
-use Rattle.tokens.specs.Judging.{listingIn}
-use Rattle.tokens.proofs.ConvertLaws.{listed-inside, fitted-longer, within-answer, within-bytes}
+use Rattle.records.proofs.RoomLaws.{fits-fourfold}
 use borrow.Author.Needs.{needs}
 use Rattle.tokens.proofs.flat.to_listing.Statement.{statement}
 use Rattle.tokens.proofs.flat.to_listing.Tie as tie
 
-list-in-requires : tie.Need-list-in-requires
-list-in-requires c κs = search needs
+slice-aggregate-listed-by : tie.Need-slice-aggregate-listed-by
+slice-aggregate-listed-by c = search needs
 
-returns : tie.Need-returns
-returns c =
-    let l = c .before .list-in in
-    let a = c .before .before .before .before .before .args in
-    let f = fitted-longer (a .s .now) (listingIn (l .result) (l .last .1 .0)) (l .ensures .0) (length (a .out .now)) (c .if1 .taken) in
-    (rw f, rw f)
-
-sub-copy : tie.Need-sub-copy
-sub-copy c = search needs
-
-part-copy-start : tie.Need-part-copy-start
-part-copy-start c = search needs
-
-part-copy-end : tie.Need-part-copy-end
-part-copy-end c =
-    let l = c .before .before .list-in in
-    listed-inside (c .before .before .before .before .before .before .args .s .now) (listingIn (l .result) (l .last .1 .0)) (l .ensures .0)
-
-copy-requires : tie.Need-copy-requires
-copy-requires c κs = search needs
+listed-by-requires : tie.Need-listed-by-requires
+listed-by-requires c κs = fits-fourfold 256 (length (c .before .before .before .before .before .args .s .now)) (omega arith)
 
 same-length : tie.Need-same-length
 same-length c = search needs
 
+returns : tie.Need-returns
+returns c = search needs
+
+slice-aggregate-listed-by-2 : tie.Need-slice-aggregate-listed-by-2
+slice-aggregate-listed-by-2 c = search needs
+
+listed-by-requires-2 : tie.Need-listed-by-requires-2
+listed-by-requires-2 c κs = fits-fourfold 2048 (length (c .before .before .before .before .before .before .args .s .now)) (omega arith)
+
+same-length-2 : tie.Need-same-length-2
+same-length-2 c = search needs
+
 returns-2 : tie.Need-returns-2
-returns-2 c =
-    let l = c .before .before .before .before .before .before .before .list-in in
-    let a = c .before .before .before .before .before .before .before .before .before .before .before .args in
-    let h = c .before .before .before .before .before .before .if1 .left in
-    let r = listingIn (l .result) (l .last .1 .0) in
-    let m = length (a .out .now) in (
-      within-answer (a .s .now) r (l .ensures .0) m h,
-      c .before .before .copy .ensures ∙ ap (sets (a .out .now) 0) (sym (within-bytes (a .s .now) r (l .ensures .0) m h)),
-    )
+returns-2 c = search needs
+
+slice-aggregate-listed-by-3 : tie.Need-slice-aggregate-listed-by-3
+slice-aggregate-listed-by-3 c = search needs
+
+listed-by-requires-3 : tie.Need-listed-by-requires-3
+listed-by-requires-3 c κs = fits-fourfold 8192 (length (c .before .before .before .before .before .before .before .args .s .now)) (omega arith)
+
+same-length-3 : tie.Need-same-length-3
+same-length-3 c = search needs
+
+returns-3 : tie.Need-returns-3
+returns-3 c = search needs
+
+slice-aggregate-listed-by-4 : tie.Need-slice-aggregate-listed-by-4
+slice-aggregate-listed-by-4 c = search needs
+
+listed-by-requires-4 : tie.Need-listed-by-requires-4
+listed-by-requires-4 c κs = search needs
+
+same-length-4 : tie.Need-same-length-4
+same-length-4 c = search needs
+
+returns-4 : tie.Need-returns-4
+returns-4 c = search needs
 
 pub to-listing-spec : {M : Type 1} → statement M
 to-listing-spec =
     tie.close
     (tie.spec
-    list-in-requires
-    returns
-    sub-copy
-    part-copy-start
-    part-copy-end
-    copy-requires
+    slice-aggregate-listed-by
+    listed-by-requires
     same-length
-    returns-2)
+    returns
+    slice-aggregate-listed-by-2
+    listed-by-requires-2
+    same-length-2
+    returns-2
+    slice-aggregate-listed-by-3
+    listed-by-requires-3
+    same-length-3
+    returns-3
+    slice-aggregate-listed-by-4
+    listed-by-requires-4
+    same-length-4
+    returns-4)
