@@ -2,19 +2,21 @@
 -- In order: an entry's body (holds-..), the whole entry (entry-end-..), the walk over all entries (Left, scan-..), the entry that the code
 -- reads (found, ace-at-..).
 -- Not here: headings, AclSteps; what an accepted list is, AclLaws. Assumes nothing.
-use Prim.Native.Nat.{ℕ, suc, _+_, _-_, _<_, _≤_}
+use Prim.Native.Nat.{ℕ, suc, _+_, _-_, _*_, _<_, _≤_}
 use mathlib.Core.Path.{_≡_, refl, sym, ap, _∙_}
 use mathlib.Core.List.{List}
 use mathlib.Core.Bool.{Bool, true, false, cond, _&&_, _||_}
 use native.Mathlib.Omega.{arith}
+use lib.Dec.{eqb, leb}
 use lib.ListN.{length}
-use borrow.Author.Tests.{lt-ltb, le-ltb, eq-eqb, ne-eqb, le-leb, leb-true}
+use borrow.Author.Tests.{lt-ltb, le-ltb, eq-eqb, ne-eqb, eqb-true, eqb-false, le-leb, lt-leb, leb-true, leb-false}
 use Rattle.base.specs.Bytes.{byteAt, u16At, u32At}
 use Rattle.lists.specs.Sid.{sidEnd}
 use Rattle.lists.specs.Acl.{headEnd, named, fitting, holds, entryEnd, shaped, foreign, scanned, scanOf, noAce, aceAt}
 use Rattle.lists.specs.declared.acl.Ace.{Ace}
 use Rattle.lists.specs.declared.acl.Scan.{Scan}
 use Rattle.lists.specs.declared.acl.Scan.the-variants.{Broken, Foreign, Plain}
+use Rattle.lists.proofs.SidLaws.{sid-end-other, sid-end-many, sid-end-cut, sid-end-whole, sid-end-bounds}
 use Rattle.lists.proofs.AclSteps.{head-end-bounds}
 
 -- ---- an entry's body, and the whole entry
@@ -34,6 +36,45 @@ module _ (l : List ℕ) (at e : ℕ) where
 
   pub holds-fits : (sidEnd l (at + 8) ≡ 0 → ⊥) → holds l at e ≡ true → sidEnd l (at + 8) ≤ e
   holds-fits h t = leb-true (sidEnd l (at + 8)) e (sym (holds-some h) ∙ t)
+
+  -- by the count alone, for an entry that ends inside the list
+  module _ (inside : e ≤ length l) where
+    pub holds-short : e < at + 16 → holds l at e ≡ false
+    holds-short k = go (eqb (sidEnd l (at + 8)) 0) refl
+      where
+        go : (b : Bool) → eqb (sidEnd l (at + 8)) 0 ≡ b → holds l at e ≡ false
+        go true z = holds-none (eqb-true _ _ z)
+        go false z =
+            let h = eqb-false _ _ z in
+            let s = sid-end-bounds l (at + 8) h .0 in
+            holds-some h ∙ lt-leb (sidEnd l (at + 8)) e (omega (arith, s))
+
+    module _ (long : at + 16 ≤ e) where
+      pub holds-other : (byteAt l (at + 8) ≡ 1 → ⊥) → holds l at e ≡ false
+      holds-other k = holds-none (sid-end-other l (at + 8) (omega arith) k)
+
+      module _ (one : byteAt l (at + 8) ≡ 1) (n : ℕ) (is : n ≡ byteAt l (at + 9)) where
+        count-is : byteAt l (at + 8 + 1) ≡ n
+        count-is = let p : at + 8 + 1 ≡ at + 9 = omega arith in ap (byteAt l) p ∙ sym is
+
+        pub holds-many : 15 < n → holds l at e ≡ false
+        holds-many k = let c = count-is in holds-none (sid-end-many l (at + 8) (omega arith) one (omega (arith, c)))
+
+        pub holds-by-count : n ≤ 15 → holds l at e ≡ leb (at + 16 + 4 * n) e
+        holds-by-count few = go (leb (at + 16 + 4 * n) (length l)) refl
+          where
+            go : (b : Bool) → leb (at + 16 + 4 * n) (length l) ≡ b → holds l at e ≡ leb (at + 16 + 4 * n) e
+            go true z =
+                let c = count-is in
+                let k : at + 16 + 4 * n ≤ length l = leb-true _ _ z in
+                let w = sid-end-whole l (at + 8) one (omega (arith, c, few)) (omega (arith, c, k)) in
+                let m : sidEnd l (at + 8) ≡ at + 16 + 4 * n = omega (arith, w, c) in
+                holds-some (λ q. omega (arith, m, q)) ∙ ap (λ (x : ℕ). leb x e) m
+            go false z =
+                let c = count-is in
+                let k : length l < at + 16 + 4 * n = leb-false _ _ z in
+                holds-none (sid-end-cut l (at + 8) (omega arith) one (omega (arith, c, few)) (omega (arith, c, k)))
+                ∙ sym (lt-leb (at + 16 + 4 * n) e (omega arith))
 
 -- an entry ends where its heading says, or is misshapen
 picked : (t u : Bool) (e : ℕ) → (cond t (cond u e 0) e ≡ 0 → ⊥) → cond t (cond u e 0) e ≡ e

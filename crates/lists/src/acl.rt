@@ -87,15 +87,23 @@ fn head_end(l: &[u8], at: usize) -> usize
     at + n
 }
 
-// Whether the entry from `at` to `e` holds a mask and one SID. What follows the SID is spare.
+// Whether the entry from `at` to `e` holds a mask and one SID. What follows the SID is spare. Its
+// bytes are those of the list, so that only its own end is asked for.
 fn holds(l: &[u8], at: usize, e: usize) -> bool
-    requires { ⌜ at ≤ length (now l) ⌝ }
+    requires { ⌜ (at ≤ e) × (e ≤ length (now l)) ⌝ }
     ensures { λ r. ⌜ r ≡ holds (now (l .entry)) at e ⌝ }
 {
-    let k = sid_end(l, at + 8);
-    if k == 0 {
+    if e - at < 16 {
         return false;
     }
+    if l[at + 8] != 1 {
+        return false;
+    }
+    let n = base::wide(l[at + 9]) as usize;
+    if 15 < n {
+        return false;
+    }
+    let k = at + 16 + 4 * n;
     k <= e
 }
 

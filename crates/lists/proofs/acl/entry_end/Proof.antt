@@ -44,7 +44,7 @@ holds-requires c κs =
     let a = c .before .before .before .before .before .before .args in
     let e = c .before .before .before .before .head-end .ensures .0 in
     let b = head-end-bounds (a .l .now) (a .at) (λ q. c .before .before .before .if1 .left (e ∙ q)) in
-    omega (arith, b .0, b .1)
+    (omega (arith, b .0, e), omega (arith, b .1, e))
 
 returns-4 : tie.Need-returns-4
 returns-4 c =
