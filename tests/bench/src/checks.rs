@@ -2,7 +2,7 @@
 
 use crate::ask::{by_plain, library, same_answers};
 use crate::floor;
-use crate::hard;
+use crate::hard::{self, Shared};
 use crate::inputs::Input;
 use crate::named::Named;
 use crate::sheet::{self, Sheet};
@@ -36,8 +36,16 @@ pub fn small(sheet: &mut Sheet) {
 }
 
 pub fn hard(sheet: &mut Sheet) {
+    strangers(sheet, &hard::ALL);
+}
+
+pub fn long(sheet: &mut Sheet) {
+    strangers(sheet, &hard::LONG);
+}
+
+fn strangers(sheet: &mut Sheet, shared: &[Shared]) {
     heading("shared");
-    for shared in hard::ALL {
+    for &shared in shared {
         for identities in [21, 257] {
             rows(sheet, &Input::hard(shared, 500, identities), &[1]);
         }

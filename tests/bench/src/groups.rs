@@ -10,7 +10,7 @@ pub struct Group {
     pub rows: fn(&mut Sheet),
 }
 
-pub const GROUPS: [Group; 7] = [
+pub const GROUPS: [Group; 8] = [
     Group {
         name: "table",
         about: "no entry names the asker, or the first one does and allows everything",
@@ -33,6 +33,11 @@ pub const GROUPS: [Group; 7] = [
         about: "the same in a policy of 262,144 bytes; entries are those of its rules, and the \
                 descriptor has 8 beside them, of which the last allows everything",
         rows: checks::policy,
+    },
+    Group {
+        name: "long",
+        about: "strangers of fifteen words, who share all but the last with the asker's identities",
+        rows: checks::long,
     },
     Group {
         name: "spare",

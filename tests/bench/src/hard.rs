@@ -19,20 +19,28 @@ pub enum Shared {
     KeyWithMost,
     /// All identities and all strangers have one key.
     KeyWithAll,
+    /// All have one key and one last word.
+    KeyAndLast,
 }
 
-use Shared::{AllButFirst, FourteenOfFifteen, KeyWithAll, KeyWithMost, LastWithAll, LastWithOne};
+use Shared::{
+    AllButFirst, FourteenOfFifteen, KeyAndLast, KeyWithAll, KeyWithMost, LastWithAll, LastWithOne,
+};
 
+/// Strangers share their last word with an identity, or their key.
 pub const ALL: [Shared; 8] = [
     LastWithOne,
     LastWithAll,
     AllButFirst,
     FourteenOfFifteen(0),
     FourteenOfFifteen(7),
-    FourteenOfFifteen(14),
     KeyWithMost,
     KeyWithAll,
+    KeyAndLast,
 ];
+
+/// Not hard: the last word, at which plain Rust looks first, tells all of them apart.
+pub const LONG: [Shared; 1] = [FourteenOfFifteen(14)];
 
 /// Those of the large policies.
 pub const IN_POLICIES: [Shared; 5] =
@@ -54,6 +62,7 @@ impl Shared {
             FourteenOfFifteen(at) => format!("all but the {}th of 15", at + 1),
             KeyWithMost => "key with most".into(),
             KeyWithAll => "key with all".into(),
+            KeyAndLast => "key and last with all".into(),
         }
     }
 
@@ -72,7 +81,8 @@ impl Shared {
             AllButFirst => both(&|i| but_for::<5>(0, i)),
             FourteenOfFifteen(at) => both(&|i| but_for::<15>(at, i)),
             KeyWithMost => key_with_most(identities, strangers),
-            KeyWithAll => key_with_all(identities, strangers),
+            KeyWithAll => key_with_all(identities, strangers, ordinary),
+            KeyAndLast => key_with_all(identities, strangers, |i| of_domain(i, 513)),
         }
     }
 }
@@ -102,9 +112,9 @@ fn ordinary(number: u32) -> Sid {
     of_domain(number % 5, 1_000 + number / 5)
 }
 
-/// The first ordinary SIDs from this number on that have a key.
-fn with_key(wanted: usize, from: u32, count: usize) -> Vec<Sid> {
-    let tried = (from..from + TRIES).map(ordinary);
+/// The first of these SIDs from this number on that have a key.
+fn with_key(wanted: usize, from: u32, count: usize, one: impl Fn(u32) -> Sid) -> Vec<Sid> {
+    let tried = (from..from + TRIES).map(one);
     let found: Vec<Sid> = tried.filter(|sid| key(sid) == wanted).take(count).collect();
     assert_eq!(found.len(), count, "too few SIDs have the key {wanted}");
     found
@@ -112,12 +122,12 @@ fn with_key(wanted: usize, from: u32, count: usize) -> Vec<Sid> {
 
 fn key_with_most(identities: usize, strangers: usize) -> People {
     let identities: Vec<Sid> = (0..identities as u32).map(ordinary).collect();
-    let strangers = with_key(commonest_key(&identities), STRANGERS, strangers);
+    let strangers = with_key(commonest_key(&identities), STRANGERS, strangers, ordinary);
     People { identities, strangers }
 }
 
-fn key_with_all(identities: usize, strangers: usize) -> People {
-    let mut found = with_key(key(&ordinary(0)), 0, identities + strangers);
+fn key_with_all(identities: usize, strangers: usize, one: impl Fn(u32) -> Sid) -> People {
+    let mut found = with_key(key(&one(0)), 0, identities + strangers, one);
     let strangers = found.split_off(identities);
     People { identities: found, strangers }
 }
@@ -153,7 +163,7 @@ mod tests {
 
     #[test]
     fn nobody_is_there_twice() {
-        for shared in ALL {
+        for shared in ALL.into_iter().chain(LONG) {
             let people = some(shared);
             let all: HashSet<_> = people.identities.iter().chain(&people.strangers).collect();
             assert_eq!(all.len(), 757, "{shared:?}");
@@ -184,8 +194,11 @@ mod tests {
         let wanted = commonest_key(&most.identities);
         assert!(most.strangers.iter().all(|sid| key(sid) == wanted));
         assert!(most.identities.iter().any(|sid| key(sid) == wanted));
-        let all = some(KeyWithAll);
-        let wanted = key(all.user());
-        assert!(all.identities.iter().chain(&all.strangers).all(|sid| key(sid) == wanted));
+        for shared in [KeyWithAll, KeyAndLast] {
+            let all = some(shared);
+            let wanted = key(all.user());
+            assert!(all.identities.iter().chain(&all.strangers).all(|sid| key(sid) == wanted));
+        }
+        assert_eq!(differing(&some(KeyAndLast)), HashSet::from([1, 2, 3]));
     }
 }

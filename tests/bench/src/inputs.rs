@@ -97,12 +97,12 @@ fn masks() -> Vec<u32> {
 #[cfg(test)]
 mod tests {
     use super::Input;
-    use crate::hard::{ALL, IN_POLICIES};
+    use crate::hard::{ALL, IN_POLICIES, LONG};
     use crate::large;
 
     #[test]
     fn hard_lists_fit_a_descriptor() {
-        for shared in ALL {
+        for shared in ALL.into_iter().chain(LONG) {
             assert!(Input::hard(shared, 500, 1).descriptor.len() <= 65_535, "{shared:?}");
         }
     }
