@@ -1,7 +1,7 @@
 -- The steps of the evaluation over a listing (specs: Evaluating): whom the chains of a crowd show, what a walk with them comes to, and what
 -- is found of it all.
 -- Assumes nothing.
-use Prim.Native.Nat.{ℕ, zero, suc, _≤_}
+use Prim.Native.Nat.{ℕ, zero, suc, _<_, _≤_}
 use mathlib.Core.Path.{_≡_, refl, ap, ap₂, _∙_}
 use mathlib.Core.List.{List}
 use mathlib.Core.Bool.{Bool, true, false}
@@ -18,7 +18,7 @@ use Rattle.passes.specs.OneWalk.{walkedOf, listedBy, normalBy}
 use Rattle.passes.specs.declared.matching.Hits.{Hits}
 use Rattle.passes.specs.declared.walk.Walked.{Walked}
 use Rattle.passes.proofs.CrowdsLaws.{Alike, hits-alike, walked-alike}
-use Rattle.passes.proofs.LinkLaws.{chains-say}
+use Rattle.passes.proofs.ChainedLaws.{chains-say}
 use Rattle.passes.proofs.EvaluationLaws.{listed-is, normal-is}
 use Rattle.policy.specs.Rules.{Lists, ruled, ruledBy}
 use Rattle.policy.specs.declared.rules.Ruled.{Ruled}
@@ -33,8 +33,8 @@ zeros zero k = refl
 zeros (suc n) zero = refl
 zeros (suc n) (suc k) = zeros n k
 
-module _ (attrs : Bool) (l : List ℕ) (at : ℕ) (short : length l ≤ 32768) (few : length (crowdAt attrs l at) ≤ 257)
-    (h0 s0 heads seats : List ℕ) (clear : h0 ≡ replicate 512 0) (clean : s0 ≡ replicate 258 0)
+module _ (attrs : Bool) (l : List ℕ) (at : ℕ) (h0 s0 heads seats : List ℕ) (short : length l ≤ 32768) (narrow : length s0 ≤ 512)
+    (few : length (crowdAt attrs l at) < length s0) (clear : h0 ≡ replicate 512 0)
     (first : heads ≡ chainsOf attrs l at (tables h0 s0) .heads) (second : seats ≡ chainsOf attrs l at (tables h0 s0) .seats) where
   abbrev made : Tables
   made = chainsOf attrs l at (tables h0 s0)
@@ -43,7 +43,7 @@ module _ (attrs : Bool) (l : List ℕ) (at : ℕ) (short : length l ≤ 32768) (
   crowd-shown allow w =
       ap₂ (λ (h s : List ℕ). among allow (shown h s l) w) first second
       ∙ chains-say h0 s0 (λ k. ap (λ (h : List ℕ). getD h k 0) clear ∙ zeros 512 k) (ap length clear ∙ length-replicate {A = ℕ} 512 0)
-      (ap length clean ∙ length-replicate {A = ℕ} 258 0) attrs l at short few made refl allow w
+      narrow attrs l at short few made refl allow w
 
 -- ---- those whom the tables show answer as the crowd does
 

@@ -3,5 +3,6 @@
 pub mod EvaluatingLaws
 pub mod FindingsLaws
 mod EvaluatingSteps
+mod SeatingLaws
 mod TokenSteps
 mod FileSteps

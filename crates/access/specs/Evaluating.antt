@@ -1,12 +1,14 @@
 -- What the evaluation finds, read from the bytes of a flat listing: `foundOf` of Granted, with the token in its listing (EvaluatingLaws,
 -- `found-listed`). The confinement identity stands at a place that the reader of tokens names.
-use Prim.Native.Nat.{ℕ, _≤_}
+use Prim.Native.Nat.{ℕ, _<_, _≤_}
 use mathlib.Core.List.{List}
-use mathlib.Core.Bool.{Bool, true, false, cond}
+use mathlib.Core.Bool.{Bool, true, false, cond, _&&_}
+use lib.Dec.{ltb}
 use lib.ListN.{length}
 use Rattle.base.specs.Bytes.{u32At}
 use Rattle.base.specs.Bits.{and}
 use Rattle.lists.specs.ByLength.{entriesByLength}
+use Rattle.lists.specs.Sid.{sidEnd}
 use Rattle.records.specs.Crowd.{Member, crowdAt, userPlace}
 use Rattle.passes.specs.Matching.{hitsOf}
 use Rattle.passes.specs.NormalEvaluation.{Dacl, listGives, normalOf}
@@ -24,9 +26,16 @@ flagsIn l = u32At l 0
 abbrev pub privilegesIn : List ℕ → ℕ
 privilegesIn l = u32At l 4
 
--- the crowds of a listing have no more seats than the chains have numbers
-abbrev pub Seatable : List ℕ → ℕ → Type 0
-Seatable l at = (length l ≤ 32768) × ((length (crowdIn l) ≤ 257) × (length (crowdAt false l at) ≤ 257))
+-- n seats are enough for each crowd of a listing: their numbers begin at 1
+abbrev pub Seatable : List ℕ → ℕ → ℕ → Type 0
+Seatable l at n = (length l ≤ 32768) × ((n ≤ 512) × ((length (crowdIn l) < n) × (length (crowdAt false l at) < n)))
+
+-- how many identities stand beside the first one of a crowd
+abbrev pub beside : List ℕ → ℕ → ℕ
+beside l at = u32At l (sidEnd l at)
+
+abbrev pub few : List ℕ → ℕ → ℕ → Bool
+few l at n = ltb (beside l userPlace) n && ltb (beside l at) n
 
 -- a list's bytes, where it is present; they were judged before
 abbrev pub daclAs : Bool → List ℕ → Dacl

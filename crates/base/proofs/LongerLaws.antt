@@ -1,9 +1,10 @@
 -- A number of more than one byte, group by group: for the loop of `longer`. Over every width up to 64 bits.
 -- In order: groups side by side (beside-lt shifted beside-fits within-lt group-lt), groups above groups (above-above); what the groups
 -- read so far have to do with the number (Among), from the first on (among-first among-next) to each end (among-cut among-wide
--- among-last); and what a number of more than one byte is at least (longer-found). Assumes nothing.
+-- among-last); a number of five groups at once (five-groups); and what a number of more than one byte is at least (longer-found).
+-- Assumes nothing.
 use Prim.Native.Nat.{ℕ, suc, _+_, _-_, _*_, _%_, _^_, _<_, _≤_}
-use mathlib.Core.Path.{_≡_, refl, sym, ap, _∙_}
+use mathlib.Core.Path.{_≡_, refl, sym, ap, ap₂, _∙_}
 use mathlib.Core.List.{List, _∷_}
 use mathlib.Core.Bool.{Bool, true, false, cond}
 use native.Mathlib.Nat.{add-mul, mul-assoc, mul-comm}
@@ -18,7 +19,7 @@ use Rattle.base.specs.Bytes.{Read}
 use Rattle.base.specs.Bytes.Read.{none, some}
 use Rattle.base.specs.Sevens.{more, groups, within, number, numOf}
 use Rattle.base.specs.declared.sevens.Num.{Num}
-use Rattle.base.proofs.SevensSteps.{above, above-some, number-out, number-last, number-long, number-carry}
+use Rattle.base.proofs.SevensSteps.{within-fits, above, above-some, number-out, number-last, number-long, number-carry}
 use Rattle.base.proofs.SevensSteps.{groups-bounds, number-found}
 
 -- ---- groups side by side
@@ -111,6 +112,43 @@ module _ (bits : ℕ) (s : List ℕ) (at v k p : ℕ) (among : Among bits s at v
         let a = above-above v k (b - 128) (numOf (number (bits - k - 7) s (p + 1))) in
         let f = ap (λ (n : ℕ). above (v + (b - 128) * 2 ^ k) (k + 7) (numOf (number n s (p + 1)))) e in
         record { low = beside-lt v (b - 128) k 7 (among .low) (omega arith); told = among .told ∙ ap (above v k) c ∙ a ∙ f }
+
+-- ---- five groups at once
+
+module _ (s : List ℕ) (at : ℕ) (inside : at + 5 ≤ length s) (a b c d e : ℕ) (isa : a ≡ getD s at 0) (isb : b ≡ getD s (at + 1) 0)
+    (isc : c ≡ getD s (at + 2) 0) (isd : d ≡ getD s (at + 3) 0) (ise : e ≡ getD s (at + 4) 0) where
+  -- the places, one after the other
+  second : at + 1 + 1 ≡ at + 2
+  second = omega arith
+
+  third : at + 1 + 1 + 1 ≡ at + 3
+  third = omega arith
+
+  fourth : at + 1 + 1 + 1 + 1 ≡ at + 4
+  fourth = omega arith
+
+  -- the value of the first four
+  abbrev lower : ℕ
+  lower = a - 128 + (b - 128) * 2 ^ 7 + (c - 128) * 2 ^ (7 + 7) + (d - 128) * 2 ^ (7 + 7 + 7)
+
+  module _ (la : 128 ≤ a) (ha : a < 256) (lb : 128 ≤ b) (hb : b < 256) (lc : 128 ≤ c) (hc : c < 256) (ld : 128 ≤ d) (hd : d < 256) where
+    four : Among 32 s at lower (7 + 7 + 7 + 7) (at + 1 + 1 + 1 + 1)
+    four =
+        let one = among-first 32 s at a isa (omega arith) la ha (omega arith) in
+        let two = among-next 32 s at _ _ _ one b isb (omega arith) lb hb (omega arith) in
+        let three = among-next 32 s at _ _ _ two c (isc ∙ ap (λ (p : ℕ). getD s p 0) (sym second)) (omega arith) lc hc (omega arith) in
+        among-next 32 s at _ _ _ three d (isd ∙ ap (λ (p : ℕ). getD s p 0) (sym third)) (omega arith) ld hd (omega arith)
+
+    pub five-groups : (e ≡ 0 → ⊥) → e ≤ 15 → (v : ℕ) →
+        v ≡ a - 128 + 128 * (b - 128) + 16384 * (c - 128) + 2097152 * (d - 128) + 268435456 * e →
+        numOf (number 32 s at) ≡ numOf (some v (at + 5))
+    unfolding numOf
+    five-groups nonzero few v is =
+        let r : Num = record { ok = true; value = e; next = at + 1 + 1 + 1 + 1 + 1 } in
+        let last = among-last 32 s at lower (7 + 7 + 7 + 7) (at + 1 + 1 + 1 + 1) four e (ise ∙ ap (λ (p : ℕ). getD s p 0) (sym fourth)) (omega arith) (omega arith) r
+        (sym (within-fits 4 e (at + 1 + 1 + 1 + 1 + 1) (omega arith))) in
+        sym last ∙ above-some lower (7 + 7 + 7 + 7) r nonzero
+        ∙ ap₂ (λ (x n : ℕ). record { ok = true; value = x; next = n }) (omega arith) (omega arith)
 
 -- ---- what was found
 

@@ -12,3 +12,4 @@ pub use sevens::Num;
 pub use sevens::number32;
 pub use sevens::number48;
 pub use sevens::number64;
+pub use sevens::word32;

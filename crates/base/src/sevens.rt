@@ -1,7 +1,7 @@
 // Numbers in groups of seven bits, lowest first, shortest form only. One reader over the width;
 // 32, 48 and 64 bits are its three doors.
 ghost use mathlib.Core.Path.{_≡_};
-ghost use Prim.Native.Nat.{_≤_, _<_, _^_};
+ghost use Prim.Native.Nat.{_+_, _≤_, _<_, _^_};
 ghost use lib.ListN.{length};
 ghost use Rattle.base.specs.Bytes.{byteAt};
 ghost use Rattle.base.specs.Bytes.Read.{none, some};
@@ -23,6 +23,18 @@ fn none() -> Num
         ok: false,
         value: 0,
         next: 0,
+    }
+}
+
+// The number of one byte that stands at a place.
+fn alone(value: u64, at: usize) -> Num
+    requires { ⌜ at + 1 < 2 ^ 64 ⌝ }
+    ensures { λ r. ⌜ r ≡ numOf (some value (at + 1)) ⌝ }
+{
+    Num {
+        ok: true,
+        value,
+        next: at + 1,
     }
 }
 
@@ -88,11 +100,7 @@ fn number_at(s: &[u8], at: usize, bits: u32) -> Num
     }
     let first = wide(s[at]) as u64;
     if first < 128 {
-        return Num {
-            ok: true,
-            value: first,
-            next: at + 1,
-        };
+        return alone(first, at);
     }
     longer(s, at, bits)
 }
@@ -104,6 +112,70 @@ pub fn number32(s: &[u8], at: usize) -> Num
     ensures { λ r. ⌜ (r .value < 2 ^ 32) × (r .next ≤ length (now (s .entry))) ⌝ }
 {
     number_at(s, at, 32)
+}
+
+// The value of the number that starts at `at` with the byte `first`, where that has five groups and
+// is within 32 bits; 0 where it is another, or none.
+fn five(s: &[u8], at: usize, first: u64) -> u64
+    requires { ⌜ (at < length (now s)) × (first ≡ byteAt (now s) at) × (128 ≤ first) × (first < 256) ⌝ }
+    ensures { λ r. ⌜ ((r ≡ 0 → ⊥) → numOf (number 32 (now (s .entry)) at) ≡ numOf (some r (at + 5))) ⌝ }
+{
+    if s.len() - at < 5 {
+        return 0;
+    }
+    let second = wide(s[at + 1]) as u64;
+    let third = wide(s[at + 2]) as u64;
+    let fourth = wide(s[at + 3]) as u64;
+    let fifth = wide(s[at + 4]) as u64;
+    if second < 128 {
+        return 0;
+    }
+    if third < 128 {
+        return 0;
+    }
+    if fourth < 128 {
+        return 0;
+    }
+    if 15 < fifth {
+        return 0;
+    }
+    if fifth == 0 {
+        return 0;
+    }
+    let low = (first - 128) + 128 * (second - 128);
+    low + 16384 * (third - 128) + 2097152 * (fourth - 128) + 268435456 * fifth
+}
+
+// The number of more than one byte that starts at `at` with the byte `first`, within 32 bits.
+fn large32(s: &[u8], at: usize, first: u64) -> Num
+    requires { ⌜ (at < length (now s)) × (first ≡ byteAt (now s) at) × (128 ≤ first) × (first < 256) ⌝ }
+    ensures { λ r. ⌜ r ≡ numOf (number 32 (now (s .entry)) at) ⌝ }
+{
+    let value = five(s, at, first);
+    if value == 0 {
+        return longer(s, at, 32);
+    }
+    Num {
+        ok: true,
+        value,
+        next: at + 5,
+    }
+}
+
+// What `number32` answers, with a short way for five bytes beside that for one: most words of an
+// identity take the one or the other.
+pub fn word32(s: &[u8], at: usize) -> Num
+    ensures { λ r. ⌜ r ≡ numOf (number 32 (now (s .entry)) at) ⌝ }
+    ensures { λ r. ⌜ (r .value < 2 ^ 32) × (r .next ≤ length (now (s .entry))) ⌝ }
+{
+    if s.len() <= at {
+        return none();
+    }
+    let first = wide(s[at]) as u64;
+    if 127 < first {
+        return large32(s, at, first);
+    }
+    alone(first, at)
 }
 
 // In at most 48 bits.

@@ -1,7 +1,7 @@
 -- Laws of the chains that a search goes through (specs: Chains). In order: a chain by the number that it starts from (chain-out,
--- chain-skip, chain-head); one turn of a search (chain-none, chain-hit, chain-last, chain-more); what is not in the chain is not read
--- (chain-frame); whom the tables show is found under its key (among-shown). Assumes nothing.
-use Prim.Native.Nat.{ℕ, zero, suc, _<_, _≤_}
+-- chain-skip, chain-head); one turn of a search (chain-none, chain-hit, chain-last, chain-near, chain-more); what is not in the chain is
+-- not read (chain-frame); whom the tables show is found under its key (among-shown). Assumes nothing.
+use Prim.Native.Nat.{ℕ, zero, suc, _+_, _-_, _<_, _≤_}
 use mathlib.Core.Bool.{Bool, true, false, cond, _&&_, _||_, or-false}
 use mathlib.Core.List.{List, [], _∷_, _++_}
 use mathlib.Core.Path.{_≡_, refl, sym, ap, _∙_}
@@ -10,15 +10,15 @@ use borrow.Author.Tests.{eq-eqb, ne-eqb, eqb-true, eqb-false, lt-ltb, le-ltb, lt
 use lib.Dec.{ltb, eqb}
 use lib.ListN.{length, getD, set}
 use lib.Seq.{getD-set-other}
-use Rattle.base.proofs.BoolLaws.{true-false}
 use Rattle.base.proofs.BytesLaws.{same-eq}
-use Rattle.base.specs.Bytes.{part, same}
+use Rattle.base.specs.Bytes.{same}
 use Rattle.records.specs.Crowd.{Member}
-use Rattle.passes.specs.Chains.{fromIn, toIn, nextIn, allowsIn, deniesIn, memberIn}
-use Rattle.passes.specs.Chains.{sitsIn, chain, headOf, shownUnder, keyed, shownBelow, shown}
+use Rattle.passes.specs.Chains.{nextIn, sitsIn, joined, row, near, chain, headOf, shownUnder, keyed, shownBelow, shown}
 use Rattle.passes.specs.Key.{keyOf}
 use Rattle.passes.specs.Matching.{among}
 use Rattle.passes.proofs.KeyLaws.{key-lt}
+use Rattle.passes.proofs.RowLaws.{row-frame}
+use Rattle.passes.proofs.SitsLaws.{joined-hit, joined-miss}
 
 -- ---- a chain, by the number that it starts from
 
@@ -47,16 +47,26 @@ module _ (seats s : List ℕ) where
           let k : n ≤ i = omega (arith, d) in
           chain-below i n k ∙ on k
 
+  -- from no number
+  pub chain-nought : (i : ℕ) → chain seats s i 0 ≡ []
+  chain-nought i = chain-skip i 0 (omega arith) ∙ chain-zero 0
+
+  -- from a number that no seat has
+  past : (m h : ℕ) → m ≤ h → chain seats s (m - 1) h ≡ []
+  past zero h l = chain-zero h
+  past (suc m) h l = chain-out (suc m - 1) h (omega arith)
+
   -- the first number of a SID's chain leads to the chain of its key
-  pub chain-head : (heads w : List ℕ) (n : ℕ) → n ≡ headOf heads w → shownUnder heads seats s (keyOf w) ≡ chain seats s n n
-  chain-head heads w n e = go (ltb 257 h) refl e
+  pub chain-head : (heads w : List ℕ) (n : ℕ) → n ≡ headOf heads seats w → shownUnder heads seats s (keyOf w) ≡ chain seats s n n
+  chain-head heads w n e = go (ltb h (length seats)) refl e
     where
       h : ℕ
       h = getD heads (keyOf w) 0
 
-      go : (b : Bool) → ltb 257 h ≡ b → n ≡ cond b 0 h → chain seats s 257 h ≡ chain seats s n n
-      go true q z = chain-out 257 h (ltb-true 257 h q) ∙ sym (ap (λ (m : ℕ). chain seats s m m) z ∙ chain-zero 0)
-      go false q z = chain-skip 257 h (ltb-false 257 h q) ∙ sym (ap (λ (m : ℕ). chain seats s m m) z)
+      go : (b : Bool) → ltb h (length seats) ≡ b → n ≡ cond b h 0 → chain seats s (length seats - 1) h ≡ chain seats s n n
+      go true q z =
+          chain-skip (length seats - 1) h (omega (arith, ltb-true h (length seats) q)) ∙ sym (ap (λ (m : ℕ). chain seats s m m) z)
+      go false q z = past (length seats) h (ltb-false h (length seats) q) ∙ sym (ap (λ (m : ℕ). chain seats s m m) z ∙ chain-zero 0)
 
   -- what stands at other numbers is not read
   pub chain-frame : (i c j n : ℕ) → j < i → chain (set seats i c) s j n ≡ chain seats s j n
@@ -66,23 +76,46 @@ module _ (seats s : List ℕ) where
       let d : suc j ≡ i → ⊥ = λ e. omega arith in
       rw (
         getD-set-other seats i (suc j) c 0 d,
+        row-frame seats s i c j (omega arith),
         chain-frame i c j (nextIn (getD seats (suc j) 0)) (omega arith),
         chain-frame i c j n (omega arith),
       )
 
 -- ---- the first number, as the code reads it
 
-module _ (heads w : List ℕ) (n : ℕ) (read : n ≡ getD heads (keyOf w) 0) where
-  pub head-past : 257 < n → headOf heads w ≡ 0
-  head-past h = rw (← read, lt-ltb 257 n h)
+module _ (heads seats w : List ℕ) (n : ℕ) (read : n ≡ getD heads (keyOf w) 0) where
+  pub head-past : length seats ≤ n → headOf heads seats w ≡ 0
+  head-past h = rw (← read, le-ltb n (length seats) h)
 
-  pub head-within : n ≤ 257 → headOf heads w ≡ n
-  head-within h = rw (← read, le-ltb 257 n h)
+  pub head-within : n < length seats → headOf heads seats w ≡ n
+  head-within h = rw (← read, lt-ltb n (length seats) h)
+
+-- ---- whether the next seat of a chain is near
+
+pub near-none : (n after : ℕ) → after ≡ 0 → near n after ≡ false
+near-none n after z = rw (eq-eqb after 0 z)
+
+pub near-by : (n after : ℕ) (b : Bool) → (after ≡ 0 → ⊥) → b ≡ ltb n (after + 16) → b ≡ near n after
+near-by n after b k e = rw (ne-eqb after 0 k) e
+
+-- one that is not is below
+pub far-below : (n after : ℕ) → (n ≡ 0 → ⊥) → near n after ≡ false → after < n
+far-below n after some e = go (eqb after 0) refl
+  where
+    go : (b : Bool) → eqb after 0 ≡ b → after < n
+    go true z = omega (arith, some, eqb-true after 0 z)
+    go false z =
+        let far : ltb n (after + 16) ≡ false = rw z at e in
+        omega (arith, ltb-false n (after + 16) far)
 
 -- ---- one turn of a search, at the number n
 
+-- those after the first seat
+abbrev pub rest : List ℕ → List ℕ → ℕ → ℕ → ℕ → List Member
+rest seats s n less x = cond (near n (nextIn x)) (row seats s less) (chain seats s less (nextIn x))
+
 pub chain-first : (seats s : List ℕ) (n less x : ℕ) → n ≡ suc less → x ≡ getD seats n 0 →
-    chain seats s n n ≡ cond (ltb (length s) (toIn x)) (chain seats s less (nextIn x)) (memberIn s x ∷ chain seats s less (nextIn x))
+    chain seats s n n ≡ joined s x (rest seats s n less x)
 unfolding chain
 chain-first seats s n less x one here = rw (here, one, eq-eqb (suc less) (suc less) refl)
 
@@ -93,33 +126,26 @@ module _ (allow : Bool) (seats s w : List ℕ) (n : ℕ) where
 
   module _ (less x : ℕ) (one : n ≡ suc less) (here : x ≡ getD seats n 0) where
     pub chain-hit : sitsIn allow s x w ≡ true → among allow (chain seats s n n) w ≡ true
-    unfolding among
-    chain-hit e = ap (λ (l : List Member). among allow l w) (chain-first seats s n less x one here) ∙ go (ltb (length s) (toIn x)) e
-      where
-        go : (b : Bool) → cond b false (same (part s (fromIn x) (toIn x)) w && cond allow (allowsIn x) (deniesIn x)) ≡ true →
-            among allow (cond b (chain seats s less (nextIn x)) (memberIn s x ∷ chain seats s less (nextIn x))) w ≡ true
-        go true e = true-false (sym e)
-        go false e = rw e
+    chain-hit e =
+        ap (λ (l : List Member). among allow l w) (chain-first seats s n less x one here)
+        ∙ joined-hit allow s x w (rest seats s n less x) e
 
-    pub chain-miss : sitsIn allow s x w ≡ false → among allow (chain seats s n n) w ≡ among allow (chain seats s less (nextIn x)) w
-    unfolding among
-    chain-miss e = ap (λ (l : List Member). among allow l w) (chain-first seats s n less x one here) ∙ go (ltb (length s) (toIn x)) e
-      where
-        go : (b : Bool) → cond b false (same (part s (fromIn x) (toIn x)) w && cond allow (allowsIn x) (deniesIn x)) ≡ false →
-            among allow (cond b (chain seats s less (nextIn x)) (memberIn s x ∷ chain seats s less (nextIn x))) w
-            ≡ among allow (chain seats s less (nextIn x)) w
-        go true e = refl
-        go false e = rw e
+    chain-miss : sitsIn allow s x w ≡ false → among allow (chain seats s n n) w ≡ among allow (rest seats s n less x) w
+    chain-miss e =
+        ap (λ (l : List Member). among allow l w) (chain-first seats s n less x one here)
+        ∙ joined-miss allow s x w (rest seats s n less x) e
 
-    -- the numbers do not fall: the chain ends
-    pub chain-last : sitsIn allow s x w ≡ false → n ≤ nextIn x → among allow (chain seats s n n) w ≡ false
-    unfolding among
-    chain-last e h = chain-miss e ∙ rw (chain-out seats s less (nextIn x) (omega arith))
+    -- it goes on nearby: with all seats below
+    pub chain-near : sitsIn allow s x w ≡ false → near n (nextIn x) ≡ true →
+        among allow (chain seats s n n) w ≡ among allow (row seats s less) w
+    chain-near e p = chain-miss e ∙ rw p
 
-    pub chain-more : (next : ℕ) → sitsIn allow s x w ≡ false → next ≡ nextIn x → next < n →
+    pub chain-more : (next : ℕ) → sitsIn allow s x w ≡ false → next ≡ nextIn x → near n next ≡ false →
         among allow (chain seats s n n) w ≡ among allow (chain seats s next next) w
-    chain-more next e p h =
-        chain-miss e ∙ rw (← p) (ap (λ (l : List Member). among allow l w) (chain-skip seats s less next (omega arith)))
+    chain-more next e p far =
+        let below : next < n = far-below n next (λ z. omega arith) far in
+        let q : near n (nextIn x) ≡ false = ap (near n) (sym p) ∙ far in
+        chain-miss e ∙ rw (q, ← p) (ap (λ (l : List Member). among allow l w) (chain-skip seats s less next (omega arith)))
 
 -- ---- whom the tables show
 
@@ -187,7 +213,7 @@ pub among-shown : (allow : Bool) (heads seats s w : List ℕ) →
 among-shown allow heads seats s w = below-is allow heads seats s w 512 ∙ rw (lt-ltb (keyOf w) 512 (key-lt w))
 
 -- where a search begins
-pub among-start : (allow : Bool) (heads seats s w : List ℕ) (n : ℕ) → n ≡ headOf heads w →
+pub among-start : (allow : Bool) (heads seats s w : List ℕ) (n : ℕ) → n ≡ headOf heads seats w →
     among allow (shown heads seats s) w ≡ among allow (chain seats s n n) w
 among-start allow heads seats s w n e =
     among-shown allow heads seats s w ∙ ap (λ (l : List Member). among allow l w) (chain-head seats s heads w n e)

@@ -1,15 +1,15 @@
--- Laws of the key (specs: Key): it is below 512; the pairs of words that are left, in a walk over them.
+-- Laws of the key (specs: Key): it is below 512; the pairs of words that are left, in a walk over them. And of the last word.
 -- Assumes nothing.
 use Prim.Native.Nat.{ℕ, suc, _+_, _-_, _/_, _<_, _≤_}
 use mathlib.Core.List.{List}
-use mathlib.Core.Path.{_≡_, refl}
+use mathlib.Core.Path.{_≡_}
 use native.Mathlib.Nat.{mod-lt}
 use native.Mathlib.Omega.{arith}
 use borrow.Author.Tests.{lt-ltb, le-ltb}
 use lib.ListN.{length}
 use Rattle.base.specs.Bits.{differ}
-use Rattle.base.specs.Bytes.{u64At}
-use Rattle.passes.specs.Key.{mixedFrom, mixed, spread, keyOf}
+use Rattle.base.specs.Bytes.{u32At, u64At}
+use Rattle.passes.specs.Key.{mixedFrom, mixed, spread, keyOf, lastOf}
 
 pub key-lt : (w : List ℕ) → keyOf w < 512
 unfolding keyOf
@@ -44,3 +44,14 @@ module _ (w : List ℕ) where
     mixed-end at x h =
         let n : (k - at + 7) / 8 ≡ 0 = omega arith in
         rw n
+
+-- ---- the last word
+
+module _ (w : List ℕ) where
+  pub last-none : length w < 4 → lastOf w ≡ 0
+  unfolding lastOf
+  last-none h = rw (lt-ltb (length w) 4 h)
+
+  pub last-some : 4 ≤ length w → lastOf w ≡ u32At w (length w - 4)
+  unfolding lastOf
+  last-some h = rw (le-ltb (length w) 4 h)

@@ -4,7 +4,10 @@ pub mod OnePassLaws
 pub mod KeyLaws
 pub mod ChainsLaws
 mod CellLaws
-pub mod LinkLaws
+mod SitsLaws
+mod RowLaws
+mod LinkLaws
+pub mod ChainedLaws
 pub mod CrowdsLaws
 pub mod EvaluationLaws
 pub mod SeatsLaws

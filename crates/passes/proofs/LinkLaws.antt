@@ -1,42 +1,44 @@
--- What the chains of a crowd come to: a SID is found in the chain of its key exactly where it is among the crowd. In order: what holds of
--- the tables after some seats (Holds); one seat more (linked-holds); all of them (chained-says); the crowd at a place of a listing
--- (chains-say). Assumes nothing.
-use Prim.Native.Nat.{ℕ, zero, suc, _+_, _-_, _*_, _<_, _≤_}
-use mathlib.Core.Bool.{Bool, true, false, cond, _&&_, _||_, or-false}
+-- One seat more in the chains of a crowd. In order: what holds of the tables after some seats, that a SID is found in the chain of its key
+-- exactly where it is among those, and so in the row of all seats (Holds); one seat more (linked-holds). All of them are in ChainedLaws.
+-- Assumes nothing.
+use Prim.Native.Nat.{ℕ, zero, suc, _+_, _-_, _*_, _%_, _<_, _≤_}
+use mathlib.Core.Bool.{Bool, true, false, cond, _&&_, _||_}
 use mathlib.Core.List.{List, [], _∷_}
 use mathlib.Core.Path.{_≡_, refl, sym, ap, _∙_}
 use native.Mathlib.Omega.{arith}
-use borrow.Author.Tests.{eqb-true, eqb-false, le-ltb}
-use lib.Dec.{eqb}
+use borrow.Author.Tests.{eq-eqb, eqb-true, eqb-false, le-ltb}
+use lib.Dec.{ltb, eqb}
 use lib.ListN.{length, getD, set, length-set}
 use lib.Seq.{getD-set-same, getD-set-other}
 use Rattle.base.proofs.BytesLaws.{same-eq}
-use Rattle.base.specs.Bytes.{byteAt, u32At, part, same}
+use Rattle.base.specs.Bytes.{byteAt, part, same}
 use Rattle.lists.proofs.SidLaws.{SidAt, sid-at}
 use Rattle.lists.specs.Sid.{sidEnd}
-use Rattle.records.specs.Crowd.{Member, membersAt, crowdAt}
-use Rattle.passes.specs.Chains.{cellOf, toIn, nextIn, memberIn, chain, shownUnder, shown, Tables, tables, linked, chained, chainsOf}
-use Rattle.passes.specs.Key.{keyOf}
+use Rattle.records.specs.Crowd.{Member}
+use Rattle.passes.specs.Chains.{cellOf, toIn, nextIn, lastIn, memberIn, sitsIn, near, row, chain, shownUnder}
+use Rattle.passes.specs.Chains.{Tables, tables, linked}
+use Rattle.passes.specs.Key.{keyOf, lastOf}
 use Rattle.passes.specs.Matching.{among}
-use Rattle.passes.specs.Seats.{firstSeat, seatAt, seated, fromSeat}
+use Rattle.passes.specs.Seats.{seated}
 use Rattle.passes.specs.declared.seats.Seat.{Seat}
-use Rattle.passes.proofs.CellLaws.{cell-to, cell-next, cell-member}
-use Rattle.passes.proofs.ChainsLaws.{chain-zero, chain-skip, chain-frame, chain-first, among-shown}
+use Rattle.passes.proofs.CellLaws.{cell-to, cell-next, cell-last, cell-member}
+use Rattle.passes.proofs.ChainsLaws.{rest, chain-skip, chain-frame, chain-first}
 use Rattle.passes.proofs.KeyLaws.{key-lt}
-use Rattle.passes.proofs.LinkSteps.{chained-none, chained-last, chained-more}
-use Rattle.passes.proofs.SeatsLaws.{crowd-first, seats-more}
+use Rattle.passes.proofs.RowLaws.{row-first, row-frame}
+use Rattle.passes.proofs.SitsLaws.{joined-is}
 
 -- a SID stands in the seat, where anything does
 abbrev pub Seated : List ℕ → Seat → Type 0
 Seated s x = (x .to ≡ 0 → ⊥) → x .to ≡ sidEnd s (x .from)
 
--- ---- what holds after the seats below a number: they are found, as f says
+-- ---- what holds after the seats below a number, of m: they are found, as f says, by their chains and in the row
 
-pub record Holds (s : List ℕ) (t : Tables) (i : ℕ) (f : Bool → List ℕ → Bool) : Type 0 where
+pub record Holds (s : List ℕ) (m : ℕ) (t : Tables) (i : ℕ) (f : Bool → List ℕ → Bool) : Type 0 where
   pub heads : length (t .heads) ≡ 512
-  pub seats : length (t .seats) ≡ 258
+  pub seats : length (t .seats) ≡ m
   pub low : (k : ℕ) → getD (t .heads) k 0 < i
   pub says : (allow : Bool) (w : List ℕ) → among allow (shownUnder (t .heads) (t .seats) s (keyOf w)) w ≡ f allow w
+  pub rows : (allow : Bool) (w : List ℕ) → among allow (row (t .seats) s (i - 1)) w ≡ f allow w
 
 abbrev pub With : List ℕ → Seat → (Bool → List ℕ → Bool) → Bool → List ℕ → Bool
 With s x f allow w = (same (part s (x .from) (x .to)) w && cond allow (x .allows) (x .denies)) || f allow w
@@ -55,37 +57,78 @@ first-or : (b r : Bool) → cond b true r ≡ (b || r)
 first-or true r = refl
 first-or false r = refl
 
-module _ (s heads seats : List ℕ) (i : ℕ) (few : i ≤ 257) (room : length seats ≡ 258) (c : ℕ) where
+module _ (s seats : List ℕ) (i : ℕ) (few : i < length seats) (c : ℕ) where
+  abbrev after : List ℕ
+  after = set seats i c
+
+  -- where a chain may start from, in the new table
+  wide : length after ≡ length seats
+  wide = length-set seats i c
+
   -- a chain of earlier seats, whatever stands at the number
-  earlier : (h : ℕ) → h < i → chain (set seats i c) s 257 h ≡ chain seats s 257 h
+  earlier : (h : ℕ) → h < i → chain after s (length after - 1) h ≡ chain seats s (length seats - 1) h
   earlier h l =
-      chain-skip (set seats i c) s 257 h (omega arith)
+      chain-skip after s (length after - 1) h (omega (arith, wide))
       ∙ chain-frame seats s i c h h l
-      ∙ sym (chain-skip seats s 257 h (omega arith))
+      ∙ sym (chain-skip seats s (length seats - 1) h (omega arith))
 
-  -- the chain of the number: its own member, then the earlier ones
-  newest : (h : ℕ) → h < i → nextIn c ≡ h → toIn c ≤ length s → chain (set seats i c) s 257 i ≡ memberIn s c ∷ chain seats s 257 h
-  newest h l n fits =
-      let one : i ≡ suc (i - 1) = omega arith in
-      let here : c ≡ getD (set seats i c) i 0 = sym (getD-set-same seats i c 0 (omega arith)) in
-      let rest : chain (set seats i c) s (i - 1) h ≡ chain seats s 257 h =
-      chain-frame seats s i c (i - 1) h (omega arith)
-      ∙ chain-skip seats s (i - 1) h (omega arith)
-      ∙ sym (chain-skip seats s 257 h (omega arith)) in
-      chain-skip (set seats i c) s 257 i few
-      ∙ chain-first (set seats i c) s i (i - 1) c one here
-      ∙ rw (le-ltb (length s) (toIn c) fits, n) (ap (λ (r : List Member). memberIn s c ∷ r) rest)
+  module _ (allow : Bool) (w : List ℕ) (f : Bool) (rows : among allow (row seats s (i - 1)) w ≡ f) (some : i ≡ 0 → ⊥) where
+    here : c ≡ getD after i 0
+    here = sym (getD-set-same seats i c 0 few)
 
-module _ (s : List ℕ) (short : length s ≤ 32768) (t : Tables) (i : ℕ) (f : Bool → List ℕ → Bool) (o : Holds s t i f)
-    (few : i ≤ 257) (x : Seat) (some : x .to ≡ 0 → ⊥) (stands : Seated s x) where
+    -- the row of earlier seats
+    below : among allow (row after s (i - 1)) w ≡ f
+    below = ap (λ (l : List Member). among allow l w) (row-frame seats s i c (i - 1) (omega (arith, some))) ∙ rows
+
+    -- the row with the number: its own member, then the earlier ones
+    whole : among allow (row after s i) w ≡ cond (sitsIn allow s c w) true f
+    whole =
+        ap (λ (l : List Member). among allow l w) (row-first after s i (i - 1) c (omega (arith, some)) here)
+        ∙ joined-is allow s c w (row after s (i - 1))
+        ∙ ap (λ (b : Bool). cond (sitsIn allow s c w) true b) below
+
+    -- the chain of the number: its own member, then the earlier ones
+    newest : (h : ℕ) → h < i → nextIn c ≡ h → among allow (chain seats s (length seats - 1) h) w ≡ f →
+        among allow (chain after s (length after - 1) i) w ≡ cond (sitsIn allow s c w) true f
+    newest h l n says =
+        ap (λ (q : List Member). among allow q w)
+        (chain-skip after s (length after - 1) i (omega (arith, wide)) ∙ chain-first after s i (i - 1) c (omega (arith, some)) here)
+        ∙ joined-is allow s c w (rest after s i (i - 1) c)
+        ∙ ap (λ (b : Bool). cond (sitsIn allow s c w) true b) (go (near i (nextIn c)))
+      where
+        chained-on : among allow (chain after s (i - 1) (nextIn c)) w ≡ f
+        chained-on =
+            ap (λ (k : ℕ). among allow (chain after s (i - 1) k) w) n
+            ∙ ap (λ (q : List Member). among allow q w)
+            (chain-frame seats s i c (i - 1) h (omega (arith, some))
+            ∙ chain-skip seats s (i - 1) h (omega arith)
+            ∙ sym (chain-skip seats s (length seats - 1) h (omega arith)))
+            ∙ says
+
+        go : (b : Bool) → among allow (cond b (row after s (i - 1)) (chain after s (i - 1) (nextIn c))) w ≡ f
+        go true = below
+        go false = chained-on
+
+module _ (s : List ℕ) (short : length s ≤ 32768) (m : ℕ) (narrow : m ≤ 512) (t : Tables) (i : ℕ) (f : Bool → List ℕ → Bool)
+    (o : Holds s m t i f) (few : i < m) (x : Seat) (some : x .to ≡ 0 → ⊥) (stands : Seated s x) where
+  abbrev sid : List ℕ
+  sid = part s (x .from) (x .to)
+
   abbrev own : ℕ
-  own = keyOf (part s (x .from) (x .to))
+  own = keyOf sid
 
   abbrev before : ℕ
   before = getD (t .heads) own 0
 
   abbrev c : ℕ
-  c = cellOf (x .from) (x .to) before (x .allows) (x .denies)
+  c = cellOf (x .from) (x .to) before (x .allows) (x .denies) (lastOf sid)
+
+  -- the numbers begin at 1
+  counted : i ≡ 0 → ⊥
+  counted z = let l = o .low own in omega arith
+
+  inside : i < length (t .seats)
+  inside = omega (arith, few, o .seats)
 
   -- where the SID ends
   record Ends : Type 0 where
@@ -104,51 +147,72 @@ module _ (s : List ℕ) (short : length s ≤ 32768) (t : Tables) (i : ℕ) (f :
       let r = a .whole in
       record { words = 2 + byteAt s (x .from + 1); small = omega arith; low = omega arith; inside = omega arith; ends = omega arith }
 
+  near-lt : before < 512
+  near-lt = let l = o .low own in omega arith
+
+  next-is : nextIn c ≡ before
+  next-is = let z = ends in
+      cell-next (x .from) (x .to) before (x .allows) (x .denies) (lastOf sid) (z .words) (z .low) (z .small) (z .ends) near-lt
+
+  -- the cell's identity is the seat's
+  sits-is : (allow : Bool) (w : List ℕ) → sitsIn allow s c w ≡ (same sid w && cond allow (x .allows) (x .denies))
+  sits-is allow w =
+      let z = ends in
+      let d : toIn c ≡ x .to =
+      cell-to (x .from) (x .to) before (x .allows) (x .denies) (lastOf sid) (z .words) (z .low) (z .small) (z .ends) near-lt in
+      let l : lastIn c ≡ lastOf sid =
+      cell-last (x .from) (x .to) before (x .allows) (x .denies) (lastOf sid) (z .words) (z .low) (z .small) (z .ends) near-lt in
+      let y : memberIn s c ≡ seated s x =
+      cell-member (x .from) (x .to) before (x .allows) (x .denies) (lastOf sid) (z .words) (z .low) (z .small) (z .ends) near-lt s in
+      held allow w (memberIn s c) y (le-ltb (length s) (toIn c) (omega (arith, z .inside, d)))
+      (eq-eqb (lastIn c) (lastOf (memberIn s c .sid)) (l ∙ ap (λ (v : Member). lastOf (v .sid)) (sym y)))
+    where
+      held : (allow : Bool) (w : List ℕ) (y : Member) → y ≡ seated s x → ltb (length s) (toIn c) ≡ false →
+          eqb (lastIn c) (lastOf (y .sid)) ≡ true →
+          (cond (ltb (length s) (toIn c)) false (eqb (lastIn c) (lastOf (y .sid))) && (same (y .sid) w && cond allow (y .allows) (y .denies)))
+          ≡ (same sid w && cond allow (x .allows) (x .denies))
+      held allow w y e p q = rw (p, q, e)
+
   -- under the key of the new SID
   mine : (allow : Bool) (w : List ℕ) → keyOf w ≡ own →
       among allow (shownUnder (set (t .heads) own i) (set (t .seats) i c) s (keyOf w)) w ≡ With s x f allow w
-  unfolding among
   mine allow w e =
-      let b : before < i = o .low own in
-      let z = ends in
-      let n : nextIn c ≡ before =
-      cell-next (x .from) (x .to) before (x .allows) (x .denies) (z .words) (z .low) (z .small) (z .ends) (omega arith) in
-      let d : toIn c ≡ x .to =
-      cell-to (x .from) (x .to) before (x .allows) (x .denies) (z .words) (z .low) (z .small) (z .ends) (omega arith) in
-      let m : memberIn s c ≡ seated s x =
-      cell-member (x .from) (x .to) before (x .allows) (x .denies) (z .words) (z .low) (z .small) (z .ends) (omega arith) s in
       let h : getD (set (t .heads) own i) (keyOf w) 0 ≡ i =
       ap (λ (k : ℕ). getD (set (t .heads) own i) k 0) e
-      ∙ getD-set-same (t .heads) own i 0 (omega (arith, o .heads, key-lt (part s (x .from) (x .to)))) in
-      let inside : toIn c ≤ length s = omega (arith, z .inside, d) in
-      ap (λ (k : ℕ). among allow (chain (set (t .seats) i c) s 257 k) w) h
-      ∙ ap (λ (l : List Member). among allow l w) (newest s (t .heads) (t .seats) i few (o .seats) c before b n inside)
-      ∙ ap (λ (y : Member). among allow (y ∷ chain (t .seats) s 257 before) w) m
-      ∙ first-or (same (part s (x .from) (x .to)) w && cond allow (x .allows) (x .denies)) (among allow (chain (t .seats) s 257 before) w)
-      ∙ ap (λ (r : Bool). (same (part s (x .from) (x .to)) w && cond allow (x .allows) (x .denies)) || r)
-      (ap (λ (k : ℕ). among allow (chain (t .seats) s 257 (getD (t .heads) k 0)) w) (sym e) ∙ o .says allow w)
+      ∙ getD-set-same (t .heads) own i 0 (omega (arith, o .heads, key-lt sid)) in
+      ap (λ (k : ℕ). among allow (chain (set (t .seats) i c) s (length (set (t .seats) i c) - 1) k) w) h
+      ∙ newest s (t .seats) i inside c allow w (f allow w) (o .rows allow w) counted before (o .low own) next-is
+      (ap (λ (k : ℕ). among allow (shownUnder (t .heads) (t .seats) s k) w) (sym e) ∙ o .says allow w)
+      ∙ first-or (sitsIn allow s c w) (f allow w)
+      ∙ ap (λ (b : Bool). b || f allow w) (sits-is allow w)
 
   -- under every other key
   others : (allow : Bool) (w : List ℕ) → (keyOf w ≡ own → ⊥) →
       among allow (shownUnder (set (t .heads) own i) (set (t .seats) i c) s (keyOf w)) w ≡ With s x f allow w
   others allow w d =
-      ap (λ (k : ℕ). among allow (chain (set (t .seats) i c) s 257 k) w) (getD-set-other (t .heads) own (keyOf w) i 0 d)
+      ap (λ (k : ℕ). among allow (chain (set (t .seats) i c) s (length (set (t .seats) i c) - 1) k) w)
+      (getD-set-other (t .heads) own (keyOf w) i 0 d)
       ∙ ap (λ (l : List Member). among allow l w)
-      (earlier s (t .heads) (t .seats) i few (o .seats) c (getD (t .heads) (keyOf w) 0) (o .low (keyOf w)))
+      (earlier s (t .seats) i inside c (getD (t .heads) (keyOf w) 0) (o .low (keyOf w)))
       ∙ o .says allow w
-      ∙ go (same (part s (x .from) (x .to)) w) refl
+      ∙ go (same sid w) refl
     where
-      go : (b : Bool) → same (part s (x .from) (x .to)) w ≡ b → f allow w ≡ ((b && cond allow (x .allows) (x .denies)) || f allow w)
-      go true p = absurd (d (sym (ap keyOf (same-eq (part s (x .from) (x .to)) w p))))
+      go : (b : Bool) → same sid w ≡ b → f allow w ≡ ((b && cond allow (x .allows) (x .denies)) || f allow w)
+      go true p = absurd (d (sym (ap keyOf (same-eq sid w p))))
       go false p = refl
 
-  pub linked-holds : Holds s (linked s t i x) (i + 1) (With s x f)
-  unfolding linked
-  linked-holds = record {
+  held-on : Holds s m (tables (set (t .heads) own i) (set (t .seats) i c)) (i + 1) (With s x f)
+  held-on = record {
     heads = length-set (t .heads) own i ∙ o .heads;
     seats = length-set (t .seats) i c ∙ o .seats;
     low = λ k. set-low (t .heads) own k i (o .low k);
     says = λ allow w. by allow w (eqb (keyOf w) own) refl;
+    rows = λ allow w.
+        let z : i + 1 - 1 ≡ i = omega arith in
+        ap (λ (k : ℕ). among allow (row (set (t .seats) i c) s k) w) z
+        ∙ whole s (t .seats) i inside c allow w (f allow w) (o .rows allow w) counted
+        ∙ first-or (sitsIn allow s c w) (f allow w)
+        ∙ ap (λ (b : Bool). b || f allow w) (sits-is allow w);
   }
     where
       by : (allow : Bool) (w : List ℕ) (b : Bool) → eqb (keyOf w) own ≡ b →
@@ -156,98 +220,6 @@ module _ (s : List ℕ) (short : length s ≤ 32768) (t : Tables) (i : ℕ) (f :
       by allow w true e = mine allow w (eqb-true (keyOf w) own e)
       by allow w false e = others allow w (eqb-false (keyOf w) own e)
 
--- ---- all of them
-
-seat-seated : (attrs : Bool) (s : List ℕ) (at : ℕ) → Seated s (seatAt attrs s at)
-unfolding seatAt
-seat-seated attrs s at = go (eqb (sidEnd s at) 0) refl
-  where
-    go : (b : Bool) → eqb (sidEnd s at) 0 ≡ b → Seated s (seatAt attrs s at)
-    go true e = rw e (λ h. absurd (h refl))
-    go false e = rw e (λ h. refl)
-
-first-seated : (s : List ℕ) (at : ℕ) → Seated s (firstSeat s at)
-unfolding firstSeat
-first-seated s at = go (eqb (sidEnd s at) 0) refl
-  where
-    go : (b : Bool) → eqb (sidEnd s at) 0 ≡ b → Seated s (firstSeat s at)
-    go true e = rw e (λ h. absurd (h refl))
-    go false e = rw e (λ h. refl)
-
--- what a crowd from a seat on says, after what was said before
-abbrev Says : Bool → List ℕ → Tables → ℕ → ℕ → Seat → (Bool → List ℕ → Bool) → Type 0
-Says attrs s t i n x f = (allow : Bool) (w : List ℕ) →
-    among allow (shownUnder (chained attrs s t i n x .heads) (chained attrs s t i n x .seats) s (keyOf w)) w
-    ≡ (among allow (fromSeat attrs s n x) w || f allow w)
-
-turned : (b r f : Bool) → (r || (b || f)) ≡ (cond b true r || f)
-turned true true f = refl
-turned true false f = refl
-turned false r f = refl
-
-chained-says : (attrs : Bool) (s : List ℕ) → length s ≤ 32768 → (n i : ℕ) (t : Tables) (x : Seat) (f : Bool → List ℕ → Bool) →
-    Holds s t i f → Seated s x → i + length (fromSeat attrs s n x) ≤ 258 → Says attrs s t i n x f
-unfolding among membersAt
-chained-says attrs s short zero i t x f o stands few allow w = go (eqb (x .to) 0) refl few
-  where
-    go : (b : Bool) → eqb (x .to) 0 ≡ b → i + length (fromSeat attrs s 0 x) ≤ 258 →
-        among allow (shownUnder (chained attrs s t i 0 x .heads) (chained attrs s t i 0 x .seats) s (keyOf w)) w
-        ≡ (among allow (fromSeat attrs s 0 x) w || f allow w)
-    go true e l = rw (chained-none attrs s t i x 0 (eqb-true (x .to) 0 e), e) (o .says allow w)
-    go false e l =
-        let k = eqb-false (x .to) 0 e in
-        let m : i + 1 ≤ 258 = rw e at l in
-        rw (chained-last attrs s t i x 0 k (omega arith) refl, e)
-        (linked-holds s short t i f o (omega arith) x k stands .says allow w
-        ∙ turned (same (part s (x .from) (x .to)) w && cond allow (x .allows) (x .denies)) false (f allow w))
-chained-says attrs s short (suc n) i t x f o stands few allow w =
-    go (λ u g h l. chained-says attrs s short n (i + 1) u (seatAt attrs s (x .next)) g h (seat-seated attrs s (x .next)) l allow w)
-    (eqb (x .to) 0) refl few
-  where
-    y : Seat
-    y = seatAt attrs s (x .next)
-
-    go : ((u : Tables) (g : Bool → List ℕ → Bool) → Holds s u (i + 1) g → i + 1 + length (fromSeat attrs s n y) ≤ 258 →
-        among allow (shownUnder (chained attrs s u (i + 1) n y .heads) (chained attrs s u (i + 1) n y .seats) s (keyOf w)) w
-        ≡ (among allow (fromSeat attrs s n y) w || g allow w)) →
-        (b : Bool) → eqb (x .to) 0 ≡ b → i + length (fromSeat attrs s (suc n) x) ≤ 258 →
-        among allow (shownUnder (chained attrs s t i (suc n) x .heads) (chained attrs s t i (suc n) x .seats) s (keyOf w)) w
-        ≡ (among allow (fromSeat attrs s (suc n) x) w || f allow w)
-    go rest true e l = rw (chained-none attrs s t i x (suc n) (eqb-true (x .to) 0 e), e) (o .says allow w)
-    go rest false e l =
-        let k = eqb-false (x .to) 0 e in
-        let q : fromSeat attrs s (suc n) x ≡ seated s x ∷ fromSeat attrs s n y = seats-more attrs s x (suc n) n y k refl refl in
-        let m : i + suc (length (fromSeat attrs s n y)) ≤ 258 = rw q at l in
-        rw (chained-more attrs s t i x (suc n) k (omega arith) n y refl refl, q)
-        (rest (linked s t i x) (With s x f) (linked-holds s short t i f o (omega arith) x k stands) (omega arith)
-        ∙ turned (same (part s (x .from) (x .to)) w && cond allow (x .allows) (x .denies)) (among allow (fromSeat attrs s n y) w)
-        (f allow w))
-
--- ---- the crowd at a place of a listing, in tables that are clear
-
-module _ (heads seats : List ℕ) (clear : (k : ℕ) → getD heads k 0 ≡ 0) (many : length heads ≡ 512) (room : length seats ≡ 258) where
-  clear-holds : (s : List ℕ) → Holds s (tables heads seats) 1 (λ _ _. false)
-  unfolding among
-  clear-holds s = record {
-    heads = many;
-    seats = room;
-    low = λ k. omega (arith, clear k);
-    says = λ allow w.
-        ap (λ (k : ℕ). among allow (chain seats s 257 k) w) (clear (keyOf w))
-        ∙ ap (λ (l : List Member). among allow l w) (chain-skip seats s 257 0 (omega arith) ∙ chain-zero seats s 0);
-  }
-
-  pub chains-say : (attrs : Bool) (s : List ℕ) (at : ℕ) → length s ≤ 32768 → length (crowdAt attrs s at) ≤ 257 →
-      (t : Tables) → t ≡ chainsOf attrs s at (tables heads seats) → (allow : Bool) (w : List ℕ) →
-      among allow (shown (t .heads) (t .seats) s) w ≡ among allow (crowdAt attrs s at) w
-  unfolding chainsOf
-  chains-say attrs s at short few t e allow w =
-      let x = firstSeat s at in
-      let n = u32At s (x .to) in
-      let c : crowdAt attrs s at ≡ fromSeat attrs s n x = crowd-first attrs s at in
-      let l : 1 + length (fromSeat attrs s n x) ≤ 258 = omega (arith, few, ap length c) in
-      among-shown allow (t .heads) (t .seats) s w
-      ∙ ap (λ (u : Tables). among allow (shownUnder (u .heads) (u .seats) s (keyOf w)) w) e
-      ∙ chained-says attrs s short n 1 (tables heads seats) x (λ _ _. false) (clear-holds s) (first-seated s at) l allow w
-      ∙ or-false (among allow (fromSeat attrs s n x) w)
-      ∙ ap (λ (ms : List Member). among allow ms w) (sym c)
+  pub linked-holds : Holds s m (linked s t i x) (i + 1) (With s x f)
+  unfolding linked
+  linked-holds = let z : i % 65536 ≡ i = omega arith in rw z held-on

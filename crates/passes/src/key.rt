@@ -1,9 +1,10 @@
-// The key of a SID: a number below 512 that depends on all of its words.
+// The key of a SID: a number below 512 that depends on all of its words; and its last word.
 ghost use mathlib.Core.Path.{_≡_};
 ghost use Prim.Native.Nat.{_<_};
-ghost use Rattle.passes.specs.Key.{mixed, spread, keyOf};
+ghost use Rattle.passes.specs.Key.{mixed, spread, keyOf, lastOf};
 
-// All words of a SID in one number, two at a time.
+// All words of a SID in one number, two at a time. Most SIDs have one word, or five: for these there
+// is no loop.
 fn mixed(w: &[u8]) -> u64
     ensures { λ r. ⌜ r ≡ mixed (now (w .entry)) ⌝ }
 {
@@ -11,8 +12,16 @@ fn mixed(w: &[u8]) -> u64
         return 0;
     }
     let k = w.len() - 8;
-    let mut x = base::u64_at(w, k);
-    let mut i: usize = 8;
+    let end = base::u64_at(w, k);
+    if k <= 8 {
+        return end;
+    }
+    let both = end ^ base::u64_at(w, 8);
+    if k <= 16 {
+        return both;
+    }
+    let mut x = both ^ base::u64_at(w, 16);
+    let mut i: usize = 24;
     while i < k {
         x = x ^ base::u64_at(w, i);
         i += 8;
@@ -34,4 +43,14 @@ pub(crate) fn key(w: &[u8]) -> usize
     ensures { λ r. ⌜ r < 512 ⌝ }
 {
     spread(mixed(w))
+}
+
+// The last word of a SID.
+pub(crate) fn last(w: &[u8]) -> u32
+    ensures { λ r. ⌜ r ≡ lastOf (now (w .entry)) ⌝ }
+{
+    if w.len() < 4 {
+        return 0;
+    }
+    base::u32_at(w, w.len() - 4)
 }

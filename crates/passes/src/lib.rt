@@ -5,6 +5,7 @@ mod chains;
 mod evaluation;
 mod key;
 mod matching;
+mod search;
 mod seats;
 mod stand;
 mod walk;

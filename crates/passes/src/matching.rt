@@ -3,9 +3,11 @@ ghost use mathlib.Core.Path.{_≡_};
 ghost use Rattle.passes.specs.Chains.{shown};
 ghost use Rattle.passes.specs.Matching.{among, side};
 ghost use Rattle.passes.specs.OneWalk.{virtualMatches};
-use crate::chains::head;
-use crate::chains::next;
-use crate::chains::sits;
+use crate::key::last;
+use crate::search::head;
+use crate::search::is_near;
+use crate::search::next;
+use crate::search::sits;
 
 // How an identity stands in for a virtual one, for allow and for deny.
 pub struct Hit {
@@ -19,11 +21,12 @@ pub struct Hits {
     pub me: Hit,
 }
 
-// Whether a SID matches one of those whom the tables show.
+// Whether a SID matches one of those whom the tables show: seat by seat, along its chain, and down
+// the row from where the chain goes on nearby.
 pub(crate) fn among(
     listing: &[u8],
     heads: &[u16; 512],
-    seats: &[u32; 258],
+    seats: &[u64],
     w: &[u8],
     allow: bool,
 ) -> bool
@@ -31,23 +34,27 @@ pub(crate) fn among(
         (shown (now (heads .entry)) (now (seats .entry)) (now (listing .entry)))
         (now (w .entry)) ⌝ }
 {
-    let mut n = head(heads, w);
-    // "The search through a token stops at the first listing that matches."
-    let hit = 'search: loop {
+    let word = last(w);
+    let mut n = head(heads, seats, w);
+    let mut down = false;
+    loop {
         if n == 0 {
-            break 'search false;
+            return false;
         }
         let x = seats[n];
-        if sits(listing, x, w, allow) {
-            break 'search true;
+        if sits(listing, x, word, w, allow) {
+            return true;
         }
         let after = next(x);
-        if n <= after {
-            break 'search false;
+        if is_near(n, after) {
+            down = true;
         }
-        n = after;
-    };
-    hit
+        if down {
+            n -= 1;
+        } else {
+            n = after;
+        }
+    }
 }
 
 // The side of a hit that is asked for.

@@ -7,7 +7,7 @@ use crate::matching::Hits;
 use crate::matching::among;
 
 // Whether an identity stands in for a virtual one. An empty one does not, nor a virtual one.
-fn stands(listing: &[u8], heads: &[u16; 512], seats: &[u32; 258], w: &[u8], allow: bool) -> bool
+fn stands(listing: &[u8], heads: &[u16; 512], seats: &[u64], w: &[u8], allow: bool) -> bool
     ensures { λ r. ⌜ r ≡ stands allow
         (shown (now (heads .entry)) (now (seats .entry)) (now (listing .entry)))
         (now (w .entry)) ⌝ }
@@ -22,7 +22,7 @@ fn stands(listing: &[u8], heads: &[u16; 512], seats: &[u32; 258], w: &[u8], allo
 }
 
 // How an identity stands in for a virtual one.
-fn hit(listing: &[u8], heads: &[u16; 512], seats: &[u32; 258], w: &[u8]) -> Hit
+fn hit(listing: &[u8], heads: &[u16; 512], seats: &[u64], w: &[u8]) -> Hit
     ensures { λ r. ⌜ r ≡ hitOf
         (shown (now (heads .entry)) (now (seats .entry)) (now (listing .entry)))
         (now (w .entry)) ⌝ }
@@ -33,7 +33,7 @@ fn hit(listing: &[u8], heads: &[u16; 512], seats: &[u32; 258], w: &[u8]) -> Hit
 }
 
 // How the owner and the self identity (`me`, which may be empty) stand in for the virtual ones.
-pub fn hits(listing: &[u8], heads: &[u16; 512], seats: &[u32; 258], owner: &[u8], me: &[u8]) -> Hits
+pub fn hits(listing: &[u8], heads: &[u16; 512], seats: &[u64], owner: &[u8], me: &[u8]) -> Hits
     ensures { λ r. ⌜ r ≡ hitsOf
         (shown (now (heads .entry)) (now (seats .entry)) (now (listing .entry)))
         (now (owner .entry)) (now (me .entry)) ⌝ }

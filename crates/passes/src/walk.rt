@@ -7,11 +7,14 @@ ghost use Rattle.lists.specs.Sid.{ownerRights};
 ghost use Rattle.lists.specs.ByLength.{entriesByLength};
 ghost use Rattle.passes.specs.Chains.{shown};
 ghost use Rattle.passes.specs.OneWalk.{walkedOf};
-use crate::chains::head;
-use crate::chains::next;
-use crate::chains::sits;
+use crate::key::last;
 use crate::matching::Hits;
 use crate::matching::virtual_matches;
+use crate::search::head;
+use crate::search::is_near;
+use crate::search::next;
+use crate::search::search_row;
+use crate::search::sits;
 use lists::Rights;
 use masks::Tally;
 use masks::all_bits;
@@ -50,7 +53,7 @@ pub fn pass(
     list: &[u8],
     listing: &[u8],
     heads: &[u16; 512],
-    seats: &[u32; 258],
+    seats: &[u64],
     hits: Hits,
 ) -> Walked
     ensures { λ r. ⌜ r ≡ walkedOf kind
@@ -86,7 +89,7 @@ pub fn pass(
         if t.decided.0 == all.0 {
             continue 'entries;
         }
-        let first = head(heads, who);
+        let first = head(heads, seats, who);
         if first == 0 {
             continue 'entries;
         }
@@ -95,18 +98,19 @@ pub fn pass(
             continue 'entries;
         }
         // "The search through a token stops at the first listing that matches."
+        let word = last(who);
         let mut n = first;
         let hit = 'search: loop {
             if n == 0 {
                 break 'search false;
             }
             let x = seats[n];
-            if sits(listing, x, who, allow) {
+            if sits(listing, x, word, who, allow) {
                 break 'search true;
             }
             let after = next(x);
-            if n <= after {
-                break 'search false;
+            if is_near(n, after) {
+                break 'search search_row(listing, seats, n - 1, who, allow);
             }
             n = after;
         };

@@ -42,7 +42,7 @@ fn result(
     kind: u32,
     listing: &[u8],
     heads: &[u16; 512],
-    seats: &[u32; 258],
+    seats: &[u64],
     hits: Hits,
     privileges: u64,
 ) -> Rights
@@ -64,7 +64,7 @@ fn judged(
     kind: u32,
     listing: &[u8],
     heads: &[u16; 512],
-    seats: &[u32; 258],
+    seats: &[u64],
     hits: Hits,
     privileges: u64,
 ) -> Ruled
@@ -110,7 +110,7 @@ pub fn ruled_by(
     kind: u32,
     listing: &[u8],
     heads: &[u16; 512],
-    seats: &[u32; 258],
+    seats: &[u64],
     hits: Hits,
     privileges: u64,
 ) -> Ruled

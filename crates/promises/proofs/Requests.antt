@@ -43,7 +43,7 @@ use Rattle.passes.specs.Chains.{shown, Tables, tables, chainsOf}
 use Rattle.passes.specs.Matching.{among}
 use Rattle.passes.specs.NormalEvaluation.{Dacl, namesOwner, listGives, normalOf}
 use Rattle.passes.specs.declared.matching.Hits.{Hits}
-use Rattle.passes.proofs.LinkLaws as links
+use Rattle.passes.proofs.ChainedLaws as links
 use Rattle.access.specs.Status.{Question, checked}
 use Rattle.demands.specs.Accepted.{Accepted}
 use Rattle.demands.specs.LongEntries.{ReadTheSame}
@@ -121,10 +121,11 @@ pub more-bytes : (bits : ℕ) (s : List ℕ) (at v n : ℕ) → 128 ≤ byteAt s
 more-bytes = longer.longer-found
 
 -- ---- Speed. No answer changes; what the quicker ways lean on
--- The chains of a crowd, in tables that were clear, show exactly that crowd: a SID matches one of those whom they show where it matches one of
--- the crowd, for allow and for deny. The crowd of an accepted token has at most 257, in at most 22,940 bytes
-pub chains-show : (heads seats : List ℕ) → ((k : ℕ) → getD heads k 0 ≡ 0) → length heads ≡ 512 → length seats ≡ 258 →
-    (attrs : Bool) (s : List ℕ) (at : ℕ) → length s ≤ 32768 → length (crowdAt attrs s at) ≤ 257 →
+-- The chains of a crowd, in tables whose heads were clear and whose seats are more than the crowd, show exactly that crowd: a SID matches one
+-- of those whom they show where it matches one of the crowd, for allow and for deny. The crowd of an accepted token has at most 257, in at
+-- most 22,940 bytes
+pub chains-show : (heads seats : List ℕ) → ((k : ℕ) → getD heads k 0 ≡ 0) → length heads ≡ 512 → length seats ≤ 512 →
+    (attrs : Bool) (s : List ℕ) (at : ℕ) → length s ≤ 32768 → length (crowdAt attrs s at) < length seats →
     (t : Tables) → t ≡ chainsOf attrs s at (tables heads seats) → (allow : Bool) (w : List ℕ) →
     among allow (shown (t .heads) (t .seats) s) w ≡ among allow (crowdAt attrs s at) w
 chains-show = links.chains-say

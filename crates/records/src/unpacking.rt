@@ -67,7 +67,7 @@ fn unpack_words(s: &[u8], at: usize, n: usize, out: &mut [u8], o: usize) -> Step
     let mut to = o;
     let mut more = n;
     while 0 < more {
-        let w = base::number32(s, from);
+        let w = base::word32(s, from);
         if !w.ok {
             return REFUSED;
         }
@@ -117,12 +117,12 @@ fn unpack_identity(s: &[u8], at: usize, out: &mut [u8], o: usize) -> Step
         return REFUSED;
     }
     put_head(out, o, n.value, v.value);
-    if n.value != 1 {
-        return unpack_words(s, v.next, n.value as usize, out, o + 8);
-    }
-    let w = unpack_words(s, v.next, 1, out, o + 8);
+    let w = unpack_words(s, v.next, n.value as usize, out, o + 8);
     if !w.ok {
         return REFUSED;
+    }
+    if n.value != 1 {
+        return w;
     }
     let to = w.to;
     Step {

@@ -3,7 +3,7 @@
 // what is written of it fits.
 ghost use mathlib.Core.Path.{_≡_};
 ghost use mathlib.Core.Bool.{true};
-ghost use Prim.Native.Nat.{_+_, _*_, _≤_};
+ghost use Prim.Native.Nat.{_+_, _*_, _≤_, _<_};
 ghost use lib.ListN.{length};
 ghost use lib.Seq.{sets};
 ghost use Rattle.base.specs.Sevens.{packed};
@@ -30,8 +30,29 @@ pub struct Place {
     pub to: usize,
 }
 
+// Writes a number of five groups, as most words of a domain are, and answers the place after it.
+fn put_five(out: &mut [u8], o: usize, v: u64) -> usize
+    requires { ⌜ (268435456 ≤ v) × (v < 34359738368) × (o + length (packed v) ≤ length (now out)) ⌝ }
+    ensures { λ r. ⌜ Wrote (now (out .entry)) (now (out .exit)) o r (packed v) ⌝ }
+{
+    out[o] = (128 + v % 128) as u8;
+    let b = v / 128;
+    let second = o + 1;
+    out[second] = (128 + b % 128) as u8;
+    let c = b / 128;
+    let third = second + 1;
+    out[third] = (128 + c % 128) as u8;
+    let d = c / 128;
+    let fourth = third + 1;
+    out[fourth] = (128 + d % 128) as u8;
+    let e = d / 128;
+    let fifth = fourth + 1;
+    out[fifth] = e as u8;
+    fifth + 1
+}
+
 // Writes a number in sevens at place `o`, shortest form, and answers the place after it. Most are
-// one byte, which is written at once.
+// one byte or five, which are written at once.
 fn put(out: &mut [u8], o: usize, v: u64) -> usize
     requires { ⌜ o + length (packed v) ≤ length (now out) ⌝ }
     ensures { λ r. ⌜ Wrote (now (out .entry)) (now (out .exit)) o r (packed v) ⌝ }
@@ -39,6 +60,11 @@ fn put(out: &mut [u8], o: usize, v: u64) -> usize
     if v < 128 {
         out[o] = v as u8;
         return o + 1;
+    }
+    if 268435456 <= v {
+        if v < 34359738368 {
+            return put_five(out, o, v);
+        }
     }
     let mut n = v;
     let mut i = o;

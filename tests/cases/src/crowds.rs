@@ -3,6 +3,7 @@
 //! shows of each whether it matched.
 
 mod kin;
+pub mod seats;
 
 use crate::make::{self, Descriptor, Question, Rule, Token};
 use crate::people;

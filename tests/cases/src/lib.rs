@@ -7,6 +7,9 @@ pub mod crowds;
 mod damage;
 pub mod decided;
 pub mod hex;
+/// The key by which the library finds identities, as the bench has it.
+#[path = "../../bench/src/key.rs"]
+pub mod key;
 pub mod make;
 pub mod numbers;
 mod people;

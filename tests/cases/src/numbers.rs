@@ -7,6 +7,7 @@
 mod aimed;
 mod bytes;
 mod token;
+pub mod words;
 
 use crate::random::Case;
 use crate::rng::Rng;

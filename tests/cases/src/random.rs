@@ -46,6 +46,10 @@ const NUMBERS: u64 = 8;
 /// One in so many has one of these aims, which they take in turn.
 const AIMED: u64 = 16;
 const AIMS: u64 = 3;
+/// One in so many is about seats.
+const SEATS: u64 = 16;
+/// One in so many is about words of five bytes.
+const WORDS: u64 = 128;
 
 /// What some cases are about, each with its turn.
 #[derive(Clone, Copy, Debug, PartialEq, Eq)]
@@ -53,10 +57,18 @@ pub enum About {
     Rooms(u64),
     Crowds(u64),
     Decided(u64),
+    Seats(u64),
+    Words(u64),
 }
 
 /// What the case of this number is about, if it has such an aim.
 pub fn about(number: u64) -> Option<About> {
+    if number % SEATS == 11 {
+        return Some(About::Seats(number / SEATS));
+    }
+    if number % WORDS == 5 {
+        return Some(About::Words(number / WORDS));
+    }
     let (turn, about) = (number / AIMED / AIMS, number / AIMED % AIMS);
     (number % AIMED == 3).then_some(match about {
         0 => About::Rooms(turn),
@@ -75,6 +87,8 @@ pub fn case(seed: u64, number: u64) -> Case {
         Some(About::Rooms(turn)) => return rooms::case(rng, turn),
         Some(About::Crowds(turn)) => return crowds::case(rng, turn),
         Some(About::Decided(turn)) => return decided::case(rng, turn),
+        Some(About::Seats(turn)) => return crowds::seats::case(rng, turn),
+        Some(About::Words(turn)) => return numbers::words::case(rng, turn),
         None => {}
     }
     match rng.below(20) {

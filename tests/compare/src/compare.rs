@@ -2,11 +2,11 @@
 //! says what does.
 
 use crate::children;
-use crate::crowds;
+use crate::crowds::{self, seats};
 use crate::decided;
 use crate::fence;
 use crate::library::{Library, Said};
-use crate::numbers;
+use crate::numbers::{self, words};
 use crate::rooms;
 use crate::spare;
 use pirasteh_cases::hex;
@@ -36,7 +36,7 @@ const STATUS: [&str; 13] = [
 ];
 
 /// What has to be reached besides, and all of `children::ROWS` and of the tables of `numbers`,
-/// `rooms`, `crowds` and `decided`.
+/// `rooms`, `crowds`, `decided`, `seats` and `words`.
 const REACHED: [&str; 10] = [
     "accepted, with spare bytes in an entry of the descriptor's DACL",
     "accepted, with spare bytes in an entry of an effective DACL",
@@ -53,7 +53,8 @@ const SPARE_TWIN: usize = 6;
 /// The first of `children::Way`.
 const CHILDREN_TWIN: usize = 7;
 
-/// The aims of `rooms`, `crowds` and `decided` are many: a run of fewer cases is not held to them.
+/// The aims of `rooms`, `crowds`, `decided`, `seats` and `words` are many: a run of fewer cases is
+/// not held to them.
 const ENOUGH_FOR_AIMS: u64 = 500_000;
 
 /// After this many differences the rest is not looked at.
@@ -68,6 +69,8 @@ struct Tally {
     rooms: rooms::Table,
     crowds: crowds::Table,
     decided: decided::Table,
+    seats: seats::Table,
+    words: words::Table,
     checks: u64,
     files: u64,
     records: u64,
@@ -106,7 +109,10 @@ pub fn many(seed: u64, count: u64) -> bool {
     if count >= ENOUGH_FOR_AIMS {
         unreached.extend(tally.aims_unreached());
     } else {
-        println!("not held to rooms, crowds and decided lists: that takes {ENOUGH_FOR_AIMS} cases");
+        println!(
+            "not held to rooms, crowds, decided lists, seats and words of five bytes: that takes \
+             {ENOUGH_FOR_AIMS} cases"
+        );
     }
     for what in &unreached {
         println!("never reached: {what}. More cases, or another seed?");
@@ -167,6 +173,7 @@ fn compare(
             tally.status(expected.as_ref().err());
             tally.numbers.record(Place::Record, record, expected.as_ref().err().copied());
             tally.rooms.converted(record, room, &expected);
+            tally.words.listed(record, expected.as_ref().err().copied());
             same(expected.clone(), library.list(record, room, dice))?;
             match expected {
                 // And the way back, into a buffer of just the right length.
@@ -181,6 +188,9 @@ fn compare(
             tally.listings += 1;
             tally.status(expected.as_ref().err());
             tally.rooms.listing(listing, room, &expected);
+            if let Ok(record) = &expected {
+                tally.words.packed(record);
+            }
             same(expected.clone(), library.pack(listing, room, dice))?;
             match expected {
                 Ok(record) => same(Ok(listing.clone()), library.list(&record, listing.len(), dice)),
@@ -317,6 +327,7 @@ impl Tally {
             (Some(About::Decided(turn)), Ok(answer)) => {
                 decided::add(turn, q, answer, &mut self.decided);
             }
+            (Some(About::Seats(turn)), Ok(answer)) => self.seats.add(turn, q, answer),
             _ => {}
         }
     }
@@ -341,6 +352,8 @@ impl Tally {
         let mut all = self.rooms.unreached();
         all.extend(self.crowds.unreached());
         all.extend(decided::unreached(&self.decided));
+        all.extend(self.seats.unreached());
+        all.extend(self.words.unreached());
         all
     }
 
@@ -368,5 +381,7 @@ impl Tally {
         self.rooms.print();
         self.crowds.print();
         decided::print(&self.decided);
+        self.seats.print();
+        self.words.print();
     }
 }

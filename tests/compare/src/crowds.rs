@@ -3,6 +3,8 @@
 //! Each entry of these cases has a right of its own. So the answer shows of each whether it
 //! matched, and each is counted by itself.
 
+pub mod seats;
+
 use crate::children::{mask_of, owner_of, sid_of};
 use crate::lists::{self, entries, Whose};
 use crate::who::{One, Who, OWNER_RIGHTS, PRINCIPAL_SELF};

@@ -5,6 +5,7 @@
 //! reader takes it, the reference does not refuse the same.
 
 mod walk;
+pub mod words;
 
 use pirasteh_cases::numbers::{aims, Door, Form, Place, DOORS, FORMS};
 use pirasteh_reference::{self as reference, refused};

@@ -8,6 +8,7 @@ mod decided;
 mod identities;
 mod numbers;
 mod rights;
+mod seats;
 mod walks;
 
 use crate::case::*;
@@ -34,5 +35,6 @@ pub fn cases() -> Vec<Case> {
     all.extend(numbers::cases());
     all.extend(crowds::cases());
     all.extend(decided::cases());
+    all.extend(seats::cases());
     all
 }

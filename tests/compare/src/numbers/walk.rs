@@ -15,6 +15,8 @@ pub struct Number {
     /// What its groups make together, as far as there is room.
     pub value: u128,
     last: Option<u8>,
+    /// Its place among the words of an identity, and how many these are.
+    pub word: Option<(usize, usize)>,
 }
 
 /// More groups do not fit a `u128`.
@@ -30,7 +32,7 @@ impl Number {
         for (place, byte) in rest[..length].iter().take(MOST_GROUPS).enumerate() {
             value |= u128::from(byte & 0x7F) << (7 * place);
         }
-        Number { bits, at, length, value, last: last.map(|last| rest[last]) }
+        Number { bits, at, length, value, last: last.map(|last| rest[last]), word: None }
     }
 
     pub fn end(&self) -> usize {
@@ -90,8 +92,12 @@ impl Walk<'_> {
     fn identity(&mut self) -> Option<()> {
         let words = self.next(32)?;
         self.next(48)?;
-        for _ in 0..words {
-            self.next(32)?;
+        for place in 0..words {
+            let value = self.next(32);
+            if let Some(number) = self.numbers.last_mut() {
+                number.word = Some((place, words));
+            }
+            value?;
         }
         Some(())
     }

@@ -13,6 +13,7 @@ pub fn cases() -> Vec<Case> {
     all.extend(long_forms());
     all.extend(too_wide());
     all.extend(cut_off());
+    all.extend(words_of_five_bytes());
     all
 }
 
@@ -150,5 +151,25 @@ fn cut_off() -> Vec<Case> {
         bad("six bytes of an authority", &ending("85 80 80 80 80 80")),
         bad("one byte of the privileges", "01 00 80"),
         bad("nine bytes of the privileges", "01 00 80 80 80 80 80 80 80 80 80"),
+    ]
+}
+
+/// Words about 2^28, from which on they take five bytes, and about 2^32, in long identities.
+fn words_of_five_bytes() -> Vec<Case> {
+    const ABOUT: [u32; 4] = [u32::MAX, (1 << 28) - 1, 1 << 28, 1 << 31];
+    let of = |length: usize| -> Vec<u32> { ABOUT.into_iter().cycle().take(length).collect() };
+    let token = [2, 5, 15].iter().fold(Token::of(&sid(5, &of(1))), |token, &length| {
+        let mut backwards = of(length);
+        backwards.reverse();
+        token.group(&sid(5, &of(length)), 1 << 28).group(&sid(5, &backwards), u32::MAX)
+    });
+    let five = |third: &str, last: &str| {
+        format!("01 00 00 05 05 15 FF FF FF FF 0F {third} 80 80 80 80 01 {last}")
+    };
+    vec![
+        made("numbers: words about 2^28 and 2^32 in identities of 1, 2, 5 and 15 words", token),
+        bad("the third of five words is 2^32", &five("80 80 80 80 10", "07 00")),
+        bad("the third of five words is 2^28 - 1, in five bytes", &five("FF FF FF FF 00", "07 00")),
+        bad("four bytes of the last of five words", &five("80 80 80 80 01", "FF FF FF FF")),
     ]
 }

@@ -19,7 +19,7 @@ returns : tie.Need-returns
 returns c =
     let f = c .before .confines in
     let u = c .before .before .u32-at in
-    let a = c .before .before .before .before .before .before .before .args in
+    let a = c .before .before .before .before .before .before .before .before .args in
     let off = ap confines (sym (u .ensures)) ∙ sym (f .ensures) ∙ not-true (f .result) (c .if1 .taken) in
     sym (not-confined (a .kind) (a .listing .now) (a .place) (a .owner .now) (a .me .now) (a .present) (a .list .now) off)
 
@@ -35,19 +35,20 @@ pass-requires c κs = search needs
 listed-requires : tie.Need-listed-requires
 listed-requires c κs = search needs
 
+same-length : tie.Need-same-length
+same-length c = search needs
+
 returns-2 : tie.Need-returns-2
 returns-2 c =
     let p = c .before .pass in
     let h = c .before .before .before .before .hits in
-    let k = c .before .before .before .before .before .before .before .chain-crowd in
-    let f = c .before .before .before .before .before .before .before .before .before .before .before .confines in
-    let u = c .before .before .before .before .before .before .before .before .before .before .before .before .u32-at in
-    let s = c .before .before .before .before .before .before .before .before .before .before .before .before .before .before .before
-    .before .before in
+    let k = c .before .before .before .before .before .before .before .before .before .chain-crowd in
+    let f = c .before .before .before .before .before .before .before .before .before .before .before .before .before .confines in
+    let u = c .before .before .before .before .before .before .before .before .before .before .before .before .before .before .u32-at in
+    let s = c .before .before .before .before .before .before .before .before .before .before .before .before .before .before .before .before .before .before .before .before in
     let a = s .args in
-    let on = ap confines (sym (u .ensures)) ∙ sym (f .ensures) ∙ not-false (f .result)
-    (c .before .before .before .before .before .before .before .before .before .before .if1 .left) in
-    let alike = crowd-shown false (a .listing .now) (a .place) (s .pre .0) (s .pre .1 .1) _ _ _ _ refl refl (k .ensures .0)
+    let on = ap confines (sym (u .ensures)) ∙ sym (f .ensures) ∙ not-false (f .result) (c .before .before .before .before .before .before .before .before .before .before .before .before .if1 .left) in
+    let alike = crowd-shown false (a .listing .now) (a .place) _ _ _ _ (s .pre .0) (s .pre .1 .0) (s .pre .1 .1 .1) refl (k .ensures .0)
     (k .ensures .1) in
     c .listed .ensures
     ∙ listed-walked (a .kind) _ _ alike (a .owner .now) (a .me .now) (a .present) (a .list .now) (h .result) (p .result) (h .ensures)
@@ -65,4 +66,5 @@ confinement-spec =
     hits-requires
     pass-requires
     listed-requires
+    same-length
     returns-2)

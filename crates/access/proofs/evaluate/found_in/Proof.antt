@@ -1,73 +1,63 @@
--- `found_in` meets its contract: each of the three evaluations is its callee's, over one pair of tables and one pair of hits.
+-- `found_in` meets its contract, in whichever room: it is that of the callee, and few identities have seats enough.
 -- Assumes nothing.
-use mathlib.Core.Path.{refl, _∙_}
-use mathlib.Core.Bool.{true}
-use Rattle.records.specs.Crowd.{userPlace}
-use Rattle.policy.specs.ByLengths.{rulesByLengths}
-use Rattle.access.proofs.EvaluatingSteps.{crowd-shown, normal-walked, rules-shown, found-made}
+use mathlib.Core.Path.{sym, _∙_}
+use native.Mathlib.Omega.{arith}
+use Rattle.access.proofs.SeatingLaws.{few-seatable}
 use borrow.Author.Needs.{needs}
 use Rattle.access.proofs.evaluate.found_in.Statement.{statement}
 use Rattle.access.proofs.evaluate.found_in.Tie as tie
 
-chain-crowd-requires : tie.Need-chain-crowd-requires
-chain-crowd-requires c κs = search needs
+few-requires : tie.Need-few-requires
+few-requires c κs = search needs
 
-hits-requires : tie.Need-hits-requires
-hits-requires c κs = search needs
+slice-aggregate-found-with : tie.Need-slice-aggregate-found-with
+slice-aggregate-found-with c = search needs
 
-u32-at-requires : tie.Need-u32-at-requires
-u32-at-requires c κs = search needs
-
-cast-privileges : tie.Need-cast-privileges
-cast-privileges c = search needs
-
-pass-requires : tie.Need-pass-requires
-pass-requires c κs = search needs
-
-normal-requires : tie.Need-normal-requires
-normal-requires c κs = search needs
-
-confinement-requires : tie.Need-confinement-requires
-confinement-requires c κs = c .before .before .before .before .before .before .before .before .before .before .before .before .before
-    .before .before .before .pre
-
-ruled-by-requires : tie.Need-ruled-by-requires
-ruled-by-requires c κs = search needs
+found-with-requires : tie.Need-found-with-requires
+found-with-requires c κs =
+    let s = c .before .before .before .before .before .before .before .before in
+    let f = c .before .before .few in
+    few-seatable (s .args .listing .now) (s .args .place) 31 (s .pre .0) (omega arith) (sym (f .ensures) ∙ c .before .if1 .taken)
 
 returns : tie.Need-returns
-returns c =
-    let r = c .before .before .before .before .before .ruled-by in
-    let n = c .before .before .before .before .before .before .before .before .before .normal in
-    let p = c .before .before .before .before .before .before .before .before .before .before .pass in
-    let u = c .before .before .before .before .before .before .before .before .before .before .before .before .before .u32-at in
-    let h = c .before .before .before .before .before .before .before .before .before .before .before .before .before .before .hits in
-    let k = c .before .before .before .before .before .before .before .before .before .before .before .before .before .before .before
-    .before .before .chain-crowd in
-    let s = c .before .before .before .before .before .before .before .before .before .before .before .before .before .before .before
-    .before .before .before .before .before .before .before .before .before .before in
-    let a = s .args in
-    let l = a .listing .now in
-    let alike = crowd-shown true l userPlace (s .pre .0) (s .pre .1 .0) _ _ _ _ refl refl (k .ensures .0) (k .ensures .1) in
-    found-made (a .kind) l (a .place) (a .owner .now) (a .me .now) (a .present) (a .list .now) (rulesByLengths (a .policy .now)) _ _ _
-    (n .ensures
-    ∙ normal-walked (a .kind) _ _ alike (a .owner .now) (a .me .now) (a .present) _ (a .list .now) (h .result) (p .result) (h .ensures)
-    (p .ensures)
-    ∙ rw (u .ensures) refl)
-    (c .before .before .before .before .before .before .before .before .confinement .ensures)
-    (rules-shown (a .kind) _ _ alike (a .owner .now) (a .me .now) _ (rulesByLengths (a .policy .now)) (h .result) (r .result) (h .ensures)
-    (r .ensures)
-    ∙ rw (u .ensures) refl)
+returns c = search needs
+
+few-requires-2 : tie.Need-few-requires-2
+few-requires-2 c κs = search needs
+
+slice-aggregate-found-with-2 : tie.Need-slice-aggregate-found-with-2
+slice-aggregate-found-with-2 c = search needs
+
+found-with-requires-2 : tie.Need-found-with-requires-2
+found-with-requires-2 c κs =
+    let s = c .before .before .before .before .before .before .before .before .before .before in
+    let f = c .before .before .few2 in
+    few-seatable (s .args .listing .now) (s .args .place) 127 (s .pre .0) (omega arith) (sym (f .ensures) ∙ c .before .if2 .taken)
+
+returns-2 : tie.Need-returns-2
+returns-2 c = search needs
+
+slice-aggregate-found-with-3 : tie.Need-slice-aggregate-found-with-3
+slice-aggregate-found-with-3 c = search needs
+
+found-with-requires-3 : tie.Need-found-with-requires-3
+found-with-requires-3 c κs = search needs
+
+returns-3 : tie.Need-returns-3
+returns-3 c = search needs
 
 pub found-in-spec : {M : Type 1} → statement M
 found-in-spec =
     tie.close
     (tie.spec
-    chain-crowd-requires
-    hits-requires
-    u32-at-requires
-    cast-privileges
-    pass-requires
-    normal-requires
-    confinement-requires
-    ruled-by-requires
-    returns)
+    few-requires
+    slice-aggregate-found-with
+    found-with-requires
+    returns
+    few-requires-2
+    slice-aggregate-found-with-2
+    found-with-requires-2
+    returns-2
+    slice-aggregate-found-with-3
+    found-with-requires-3
+    returns-3)

@@ -185,7 +185,7 @@ found-in-requires c κs =
     let one = c .before .before .before .before .before .before .before .before .before .before .before .before .before in
     let r = listing-at one .list-in in
     let h = held-limits _ (r .result) _ (token-at one) (bytes-at one) _ (part-front (r .last .1 .0) (r .result .length)) in
-    (omega (arith, h .0), h .1)
+    (omega (arith, h .0), (omega arith, (omega (arith, h .1 .0), omega (arith, h .1 .1))))
 
 same-length-5 : tie.Need-same-length-5
 same-length-5 c = long-at (up-2 (up-3 (up-4 (c .before .before .before .before .before .before))))

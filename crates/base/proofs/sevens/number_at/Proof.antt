@@ -1,11 +1,13 @@
 -- `number_at` meets its contract: nothing beyond the end, a number of one byte by itself, a longer one by `longer`.
 -- Assumes nothing.
+use Prim.Native.Nat.{ℕ, _+_}
 use mathlib.Core.Path.{_≡_, sym, ap, _∙_}
 use native.Mathlib.Omega.{arith}
 use lib.ListN.{getD}
-use borrow.Author.Needs.{needs}
+use Rattle.base.specs.Bytes.Read.{some}
 use Rattle.base.specs.Sevens.{numOf}
 use Rattle.base.proofs.SevensSteps.{number-out, number-alone, num-answer}
+use borrow.Author.Needs.{needs}
 use Rattle.base.proofs.sevens.number_at.Statement.{statement}
 use Rattle.base.proofs.sevens.number_at.Tie as tie
 
@@ -26,16 +28,16 @@ wide-requires c κs = search needs
 cast-first : tie.Need-cast-first
 cast-first c = search needs
 
-add-t10 : tie.Need-add-t10
-add-t10 c = search needs
+alone-requires : tie.Need-alone-requires
+alone-requires c κs = search needs
 
 returns-2 : tie.Need-returns-2
-unfolding numOf
 returns-2 c =
-    let a = c .before .before .before .before .before .args in
-    let w : c .before .wide .result ≡ getD (a .s .now) (a .at) 0 = c .before .wide .ensures .0 in
+    let a = c .before .before .before .before .before .before .args in
+    let w : c .before .before .wide .result ≡ getD (a .s .now) (a .at) 0 = c .before .before .wide .ensures .0 in
     let e = number-alone (a .bits) (a .s .now) (a .at) (omega arith) (omega arith) (omega arith) in
-    num-answer (a .bits) (a .s .now) (a .at) _ (rw w (sym (ap numOf e)))
+    num-answer (a .bits) (a .s .now) (a .at) _
+    (c .alone .ensures ∙ ap (λ (v : ℕ). numOf (some v (a .at + 1))) w ∙ sym (ap numOf e))
 
 longer-requires : tie.Need-longer-requires
 longer-requires c κs = search needs
@@ -54,7 +56,7 @@ number-at-spec =
     shared-slice-read-wide
     wide-requires
     cast-first
-    add-t10
+    alone-requires
     returns-2
     longer-requires
     returns-3)

@@ -10,6 +10,7 @@ use native.Mathlib.Omega.{arith}
 use borrow.Author.Needs.{needs}
 use borrow.Author.Tests.{not-true, not-false}
 use lib.Dec.{eqb}
+use lib.ListN.{length}
 use Rattle.base.specs.Bits.{has}
 use Rattle.base.specs.Bytes.{same, part}
 use Rattle.lists.specs.Acl.{Entry, entryOf}
@@ -19,13 +20,13 @@ use Rattle.lists.specs.declared.acl.Ace.{Ace}
 use Rattle.records.specs.Crowd.{Member}
 use Rattle.masks.specs.TheTally.{idle}
 use Rattle.masks.specs.declared.tally.Tally.{Tally}
-use Rattle.passes.specs.Chains.{chain, shown}
+use Rattle.passes.specs.Chains.{near, chain, shown}
 use Rattle.passes.specs.Matching.{among}
 use Rattle.passes.specs.NormalEvaluation.{counts}
 use Rattle.passes.specs.OnePass.{taken}
 use Rattle.passes.specs.OneWalk.{walkedFrom, walkedOf}
 use Rattle.passes.specs.declared.matching.Hits.{Hits}
-use Rattle.passes.proofs.ChainsLaws.{among-start, chain-none, chain-hit, chain-last, chain-more}
+use Rattle.passes.proofs.ChainsLaws.{among-start, chain-none, chain-hit, chain-near, chain-more, far-below}
 use Rattle.passes.proofs.MatchingLaws.{matches-virtual, matches-among}
 use Rattle.passes.proofs.WalkSteps.{taken-idle, taken-skipped, taken-missed, taken-full, taken-by}
 use Rattle.passes.proofs.WalkSteps.{names-skipped, names-other, names-counted, entries-end}
@@ -34,11 +35,11 @@ use Rattle.passes.proofs.walk.pass.Statement.{statement}
 use Rattle.passes.proofs.walk.pass.Tie as tie
 
 abbrev Inv-search : tie.InvT-search
-Inv-search kind list listing heads seats hits entries all t named k place from to who allow first mask n₀ n =
-    (n < 258) × (among allow (shown heads seats listing) who ≡ among allow (chain seats listing n n) who)
+Inv-search kind list listing heads seats hits entries all t named k place from to who allow first mask word n₀ n =
+    (n ≤ length seats - 1) × (among allow (shown heads seats listing) who ≡ among allow (chain seats listing n n) who)
 
 abbrev μ-search : tie.MeasureT-search
-μ-search kind list listing heads seats hits entries all t named k place from to who allow first mask n₀ n = n
+μ-search kind list listing heads seats hits entries all t named k place from to who allow first mask word n₀ n = n
 
 abbrev Inv-entries : tie.InvT-entries
 Inv-entries kind list listing heads seats hits entries all t₀ named₀ k₀ place₀ t named k place =
@@ -55,18 +56,18 @@ abbrev Standing : Type 0
 Standing = tie.Else1 Inv-search μ-search Inv-entries μ-entries
 
 abbrev kind-of : Standing → ℕ
-kind-of p = p .before .before .before .before .before .before .before .before .before .args .kind
+kind-of p = p .before .before .before .before .before .before .before .before .before .before .args .kind
 
 abbrev list-of : Standing → List ℕ
-list-of p = p .before .before .before .before .before .before .before .before .before .args .list .now
+list-of p = p .before .before .before .before .before .before .before .before .before .before .args .list .now
 
 abbrev hits-of : Standing → Hits
-hits-of p = p .before .before .before .before .before .before .before .before .before .args .hits
+hits-of p = p .before .before .before .before .before .before .before .before .before .before .args .hits
 
 abbrev crowd-of : Standing → List Member
-crowd-of p = shown (p .before .before .before .before .before .before .before .before .before .args .heads .now)
-    (p .before .before .before .before .before .before .before .before .before .args .seats .now)
-    (p .before .before .before .before .before .before .before .before .before .args .listing .now)
+crowd-of p = shown (p .before .before .before .before .before .before .before .before .before .before .args .heads .now)
+    (p .before .before .before .before .before .before .before .before .before .before .args .seats .now)
+    (p .before .before .before .before .before .before .before .before .before .before .args .listing .now)
 
 abbrev count-of : Standing → ℕ
 count-of p = p .before .before .before .before .before .before .u16-at .result
@@ -129,7 +130,7 @@ empty-requires c κs = search needs
 
 entries-holds : tie.Need-entries-holds Inv-search μ-search Inv-entries μ-entries
 entries-holds c =
-    let a = c .before .before .before .before .before .args in (
+    let a = c .before .before .before .before .before .before .args in (
       omega arith,
       walk-start (a .kind) (shown (a .heads .now) (a .seats .now) (a .listing .now)) (a .hits) (a .list .now)
           (c .before .before .u16-at .result)
@@ -220,7 +221,7 @@ entries-less-4 c = search needs
 entries-again-4 : tie.Need-entries-again-4 Inv-search μ-search Inv-entries μ-entries
 entries-again-4 c =
     let p = c .before .before .before .before .before .before .before .before .before .before .before in
-    let a = p .before .before .before .before .before .before .before .before .before .args in
+    let a = p .before .before .before .before .before .before .before .before .before .before .args in
     let h = c .before .head in
     let allow = eqb (ace-of p .kind) 0 in
     let other = other-in (c .before .before .before .before .before) in
@@ -248,54 +249,72 @@ entries-again-5 c =
     (sym (taken-idle (kind-of p) (crowd-of p) (hits-of p) (tally-of p) (entry-of p)
     (ap (λ (n : ℕ). idle (tally-of p) (ace-of p .flags) n) (sym (m .ensures)) ∙ (sym (c .before .idle .ensures) ∙ c .if6 .taken))))
 
+last-requires : tie.Need-last-requires Inv-search μ-search Inv-entries μ-entries
+last-requires c κs = search needs
+
 search-holds : tie.Need-search-holds Inv-search μ-search Inv-entries μ-entries
 search-holds c =
-    let p = c .before .before .before .before .before .before .before .before .before .before .before .before .before .before in
-    let a = p .before .before .before .before .before .before .before .before .before .args in
-    let h = c .before .before .before .before .head in (
+    let p = c .before .before .before .before .before .before .before .before .before .before .before .before .before .before .before in
+    let a = p .before .before .before .before .before .before .before .before .before .before .args in
+    let h = c .before .before .before .before .before .head in (
       h .ensures .1,
       among-start (eqb (ace-of p .kind) 0) (a .heads .now) (a .seats .now) (a .listing .now) (who-of p) (h .result) (h .ensures .0),
     )
 
 mul-x : tie.Need-mul-x Inv-search μ-search Inv-entries μ-entries
-mul-x c = search needs
+mul-x c =
+    let p = c .before .before .before .before .before .before .before .before .before .before .before .before .before .before .before .before .before in
+    let z = p .before .before .before .before .before .before .before .before .before .before in
+    let within : c .before .search .n < length (z .args .seats .now) = omega (arith, c .before .search .inv .0, c .if7 .left) in
+    let room = z .good .1 .1 .1 .1 .0 in
+    search needs
 
-element-copy-out-x : tie.Need-element-copy-out-x Inv-search μ-search Inv-entries μ-entries
-element-copy-out-x c = search needs
+shared-slice-read-x : tie.Need-shared-slice-read-x Inv-search μ-search Inv-entries μ-entries
+shared-slice-read-x c = search needs
 
 sits-requires : tie.Need-sits-requires Inv-search μ-search Inv-entries μ-entries
-sits-requires c κs = search needs
+sits-requires c κs = c .before .before .before .last .ensures
 
 next-requires : tie.Need-next-requires Inv-search μ-search Inv-entries μ-entries
 next-requires c κs = search needs
 
+is-near-requires : tie.Need-is-near-requires Inv-search μ-search Inv-entries μ-entries
+is-near-requires c κs = search needs
+
+sub-search-row : tie.Need-sub-search-row Inv-search μ-search Inv-entries μ-entries
+sub-search-row c = search needs
+
+search-row-requires : tie.Need-search-row-requires Inv-search μ-search Inv-entries μ-entries
+search-row-requires c κs = omega (arith, c .before .before .before .before .before .before .before .search .inv .0)
+
+-- the next seat of the chain is below
+below : (c : tie.Else9 Inv-search μ-search Inv-entries μ-entries) → c .before .before .next .result < c .before .before .before .before .before .before .before .search .n
+below c =
+    far-below (c .before .before .before .before .before .before .before .search .n) (c .before .before .next .result) (c .before .before .before .before .before .before .if7 .left)
+    (sym (c .before .is-near .ensures) ∙ c .if9 .left)
+
 search-less : tie.Need-search-less Inv-search μ-search Inv-entries μ-entries
-search-less c = search needs
+search-less c = below c
 
 search-again : tie.Need-search-again Inv-search μ-search Inv-entries μ-entries
 search-again c =
-    let p = c .before .before .before .before .before .before .before .before .before .before .before .before .before .before .before
-    .before .before .before .before .before .before in
-    let a = p .before .before .before .before .before .before .before .before .before .args in
-    let l = c .before .before .before .before .before .before .search in (
-      omega arith,
+    let p = c .before .before .before .before .before .before .before .before .before .before .before .before .before .before .before .before .before .before .before .before .before .before .before in
+    let a = p .before .before .before .before .before .before .before .before .before .before .args in
+    let l = c .before .before .before .before .before .before .before .search in
+    let less = below c in (
+      omega (arith, less, l .inv .0),
       l .inv .1
-          ∙ chain-more (eqb (ace-of p .kind) 0) (a .seats .now) (a .listing .now) (who-of p) (l .n) (l .n - 1) _
-          (omega (arith, c .before .before .before .before .before .if7 .left)) refl (c .before .next .result)
-          (sym (c .before .before .before .sits .ensures) ∙ c .before .before .if8 .left) (c .before .next .ensures)
-          (omega (arith, c .if9 .left)),
+          ∙ chain-more (eqb (ace-of p .kind) 0) (a .seats .now) (a .listing .now) (who-of p) (l .n) (l .n - 1) _ (omega (arith, less))
+          refl (c .before .before .next .result) (sym (c .before .before .before .before .sits .ensures) ∙ c .before .before .before .if8 .left) (c .before .before .next .ensures .0)
+          (sym (c .before .is-near .ensures) ∙ c .if9 .left),
     )
 
 -- what the search gave: whether one of those shown matches
 found : (c : tie.Joined7 Inv-search μ-search Inv-entries μ-entries) →
-    c .if7 .hit ≡ among (eqb (ace-of (c .before .before .before .before .before .before .before .before .before .before .before .before
-    .before .before .before .before) .kind) 0) (crowd-of (c .before .before .before .before .before .before .before .before .before
-    .before .before .before .before .before .before .before)) (who-of (c .before .before .before .before .before .before .before .before
-    .before .before .before .before .before .before .before .before))
+    c .if7 .hit ≡ among (eqb (ace-of (c .before .before .before .before .before .before .before .before .before .before .before .before .before .before .before .before .before) .kind) 0) (crowd-of (c .before .before .before .before .before .before .before .before .before .before .before .before .before .before .before .before .before)) (who-of (c .before .before .before .before .before .before .before .before .before .before .before .before .before .before .before .before .before))
 found c =
-    let p = c .before .before .before .before .before .before .before .before .before .before .before .before .before .before .before
-    .before in
-    let a = p .before .before .before .before .before .before .before .before .before .args in
+    let p = c .before .before .before .before .before .before .before .before .before .before .before .before .before .before .before .before .before in
+    let a = p .before .before .before .before .before .before .before .before .before .before .args in
     let l = c .before .search in
     let allow = eqb (ace-of p .kind) 0 in
     ⊎-elim
@@ -305,29 +324,29 @@ found c =
     ∙ sym (l .inv .1
     ∙ chain-hit allow (a .seats .now) (a .listing .now) (who-of p) (l .n) (l .n - 1) _ (omega (arith, w .0 .left)) refl
     (sym (w .2 .ensures) ∙ w .3 .taken)))
-    (λ w. w .6
+    (λ w. w .8 ∙ w .7 .ensures
     ∙ sym (l .inv .1
-    ∙ chain-last allow (a .seats .now) (a .listing .now) (who-of p) (l .n) (l .n - 1) _ (omega (arith, w .0 .left)) refl
-    (sym (w .2 .ensures) ∙ w .3 .left) (omega (arith, w .5 .taken, w .4 .ensures)))))
+    ∙ chain-near allow (a .seats .now) (a .listing .now) (who-of p) (l .n) (l .n - 1) _ (omega (arith, w .0 .left)) refl
+    (sym (w .2 .ensures) ∙ w .3 .left)
+    (ap (near (l .n)) (sym (w .4 .ensures .0)) ∙ sym (w .5 .ensures) ∙ w .6 .taken))))
     (c .if7 .came)
 
 step-requires-2 : tie.Need-step-requires-2 Inv-search μ-search Inv-entries μ-entries
 step-requires-2 c κs = search needs
 
 entries-less-6 : tie.Need-entries-less-6 Inv-search μ-search Inv-entries μ-entries
-entries-less-6 c = search needs
+entries-less-6 c =
+    let p = c .before .before .before .before .before .before .before .before .before .before .before .before .before .before .before .before .before .before in
+    omega (arith, p .before .before .entries-test .taken)
 
 entries-again-6 : tie.Need-entries-again-6 Inv-search μ-search Inv-entries μ-entries
 entries-again-6 c =
-    let p = c .before .before .before .before .before .before .before .before .before .before .before .before .before .before .before
-    .before .before in
-    let f = c .before .before .before .before .before .before .before .before .before .before .before .before .before .before .before
-    .before .counts in
-    let m = c .before .before .before .before .before .entry-mask2 in
-    let other = other-in (c .before .before .before .before .before .before .before .before .before .before .before) in
+    let p = c .before .before .before .before .before .before .before .before .before .before .before .before .before .before .before .before .before .before in
+    let f = c .before .before .before .before .before .before .before .before .before .before .before .before .before .before .before .before .before .counts in
+    let m = c .before .before .before .before .before .before .entry-mask2 in
+    let other = other-in (c .before .before .before .before .before .before .before .before .before .before .before .before) in
     let counted = not-true (has (ace-of p .flags) 0x08) (sym (f .ensures) ∙ not-false (f .result)
-    (c .before .before .before .before .before .before .before .before .before .before .before .before .before .before .before .if2
-    .left)) in
+    (c .before .before .before .before .before .before .before .before .before .before .before .before .before .before .before .before .if2 .left)) in
     let mine = matches-among (eqb (ace-of p .kind) 0) (crowd-of p) (who-of p) (hits-of p) other in
     on p (c .step2 .result) (named-of p) (names-other (named-of p) (entry-of p) other)
     (c .step2 .ensures
@@ -336,7 +355,7 @@ entries-again-6 c =
 
 returns : tie.Need-returns Inv-search μ-search Inv-entries μ-entries
 returns c =
-    let a = c .before .before .before .before .before .before .before .before .args in
+    let a = c .before .before .before .before .before .before .before .before .before .args in
     let l = c .before .before .entries in
     let n = c .before .before .before .before .before .u16-at .result in
     let over : entriesByLengthAt (a .list .now) (n - l .k) (l .place) ≡ [] =
@@ -384,11 +403,15 @@ pass-spec =
     idle-requires
     entries-less-5
     entries-again-5
+    last-requires
     search-holds
     mul-x
-    element-copy-out-x
+    shared-slice-read-x
     sits-requires
     next-requires
+    is-near-requires
+    sub-search-row
+    search-row-requires
     search-less
     search-again
     step-requires-2

@@ -36,7 +36,7 @@ returns c =
     let second = c .before .before .before .before .before in
     let test = second .before .before in
     let first = test .before in
-    let a = first .before .before .before .before .before .before .args in
+    let a = first .before .before .before .before .before .before .before .args in
     judged-staged (a .kind) (shown (a .heads .now) (a .seats .now) (a .listing .now)) (a .hits) (a .privileges) (a .before)
     (listsByLengths (a .s .now) (a .r))
     (first .result .result .0) (first .result .ensures) (second .result2 .result .0) (second .result2 .ensures)
@@ -46,7 +46,7 @@ returns-2 : tie.Need-returns-2
 returns-2 c =
     let test = c .before .before in
     let first = test .before in
-    let a = first .before .before .before .before .before .before .args in
+    let a = first .before .before .before .before .before .before .before .args in
     judged-plain (a .kind) (shown (a .heads .now) (a .seats .now) (a .listing .now)) (a .hits) (a .privileges) (a .before)
     (listsByLengths (a .s .now) (a .r))
     (first .result .result .0) (first .result .ensures) (le-ltb _ _ (test .if1 .left))

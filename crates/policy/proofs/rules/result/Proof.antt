@@ -14,7 +14,7 @@ normal-requires c κs = search needs
 
 returns : tie.Need-returns
 returns c =
-    let a = c .before .before .before .before .args in
+    let a = c .before .before .before .before .before .args in
     result-is (a .kind) (shown (a .heads .now) (a .seats .now) (a .listing .now)) (a .hits) (a .privileges) (entriesByLength (a .list .now))
     (c .before .pass .result) (c .normal .result .0) (c .before .pass .ensures) (c .normal .ensures)
 

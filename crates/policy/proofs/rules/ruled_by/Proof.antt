@@ -26,7 +26,7 @@ u32-at-requires c κs = search needs
 
 loop-holds : tie.Need-loop-holds Inv-loop μ-loop
 loop-holds c =
-    let a = c .before .before .before .args in (
+    let a = c .before .before .before .before .args in (
       omega arith,
       ap
           (λ (m : ℕ). Left (a .kind) (shown (a .heads .now) (a .seats .now) (a .listing .now)) (a .hits) (a .privileges) (a .s .now) (ruled everything 0) m 5)
@@ -40,7 +40,7 @@ returns : tie.Need-returns Inv-loop μ-loop
 returns c =
     let i = c .before .before .before .loop in
     let n = c .before .before .before .before in
-    let a = n .before .before .before .args in
+    let a = n .before .before .before .before .args in
     let r = c .before .rule-by-lengths in
     sym
     (i .inv .1
@@ -59,7 +59,7 @@ loop-again : tie.Need-loop-again Inv-loop μ-loop
 loop-again c =
     let i = c .before .before .before .before .loop in
     let n = c .before .before .before .before .before in
-    let a = n .before .before .before .args in
+    let a = n .before .before .before .before .args in
     let r = c .before .before .rule-by-lengths in (
       omega arith,
       i .inv .1
@@ -71,7 +71,7 @@ returns-2 : tie.Need-returns-2 Inv-loop μ-loop
 returns-2 c =
     let i = c .before .loop in
     let n = c .before .before in
-    let a = n .before .before .before .args in
+    let a = n .before .before .before .before .args in
     sym (i .inv .1 ∙ left-end (a .kind) (shown (a .heads .now) (a .seats .now) (a .listing .now)) (a .hits) (a .privileges) (a .s .now) (i .so-far) (n .u32-at .result) (i .k) (i .place) (omega arith))
 
 pub ruled-by-spec : {M : Type 1} → statement M

@@ -79,87 +79,79 @@ words c =
     let from : List ℕ → Outcome = λ l. outcome (copied wordAt (n .result .value) (a .s .now) (v .result .next)) l (a .o + 8) in
     d ∙ ap from (sym (c .put-head .ensures))
 
--- ---- another count than one
+-- ---- the words
 
 add-unpack-words : tie.Need-add-unpack-words
-add-unpack-words c = omega (arith, room (c .before .before .before .before .before .before .before))
+add-unpack-words c = omega (arith, room (c .before .before .before .before .before))
 
 unpack-words-requires : tie.Need-unpack-words-requires
 unpack-words-requires c κs =
-    let two = c .before .before .before .before .before .before .before in
-    room-same (long (c .before .before .before .before .before)) (room-left (start two .pre) (omega (arith, past two)) (omega arith))
+    let two = c .before .before .before .before .before in
+    room-same (long (c .before .before .before)) (room-left (start two .pre) (omega (arith, past two)) (omega arith))
+
+abbrev head-at : tie.After-unpack-words → tie.Else2
+head-at c = c .before .before .before .before .before .before
+
+-- what the identity comes to
+whole : (c : tie.After-unpack-words) →
+    let a = start (head-at c) .args in
+    left (c .unpack-words .result) (c .unpack-words .last .1 .1 .1 .0)
+    ≡ outcome (packedIdentity (a .s .now) (a .at)) (a .out .now) (a .o)
+whole c = c .unpack-words .ensures .0 ∙ sym (words (c .before .before .before .before))
+
+within : (c : tie.After-unpack-words) →
+    let a = start (head-at c) .args in
+    Within (c .unpack-words .result) (a .o) (a .at) 68
+within c = within-after (omega (arith, past (head-at c))) (omega arith) (c .unpack-words .ensures .1)
 
 same-length : tie.Need-same-length
 same-length c = omega (arith, long (c .before .before .before .before .before .before .before .before))
 
 returns-3 : tie.Need-returns-3
 returns-3 c =
-    let two = c .before .before .before .before .before .before .before .before .before .before in
-    let n = two .before .before .before .before .before .number-to in
-    let w = c .before .before .unpack-words in (
-      w .ensures .0 ∙ sym (words (c .before .before .before .before .before .before .before .before)),
-      (
-        within-after (omega (arith, past two)) (omega arith) (w .ensures .1),
-        λ e. count-plain _ _ (n .result) (n .ensures .0) (two .before .before .before .if1 .left)
-            (c .before .before .before .before .if3 .taken),
-      ),
-    )
+    let w = c .before .before .before .before in
+    (sym (step-refused _ _ _ (w .unpack-words .result) _ (whole w) (c .if3 .taken)), (refused-within, λ e. unclaimed e))
 
--- ---- one word
-
-add-unpack-words-2 : tie.Need-add-unpack-words-2
-add-unpack-words-2 c = omega (arith, room (c .before .before .before .before .before .before .before))
-
-unpack-words-requires-2 : tie.Need-unpack-words-requires-2
-unpack-words-requires-2 c κs =
-    let two = c .before .before .before .before .before .before .before in
-    room-same (long (c .before .before .before .before .before)) (room-left (start two .pre) (omega (arith, past two)) (omega arith))
-
-abbrev head-at : tie.After-unpack-words2 → tie.Else2
-head-at c = c .before .before .before .before .before .before .before .before
-
--- what the identity comes to
-whole : (c : tie.After-unpack-words2) →
-    let a = start (head-at c) .args in
-    left (c .unpack-words2 .result) (c .unpack-words2 .last .1 .1 .1 .0)
-    ≡ outcome (packedIdentity (a .s .now) (a .at)) (a .out .now) (a .o)
-whole c =
-    let two = head-at c in
-    let a = start two .args in
-    let head = c .before .before .before .before .before .before in
-    let v = two .before .before .number48 .result in
-    let all : ℕ → Outcome = λ k. outcome (copied wordAt k (a .s .now) (v .next)) (head .put-head .last .0) (a .o + 8) in
-    c .unpack-words2 .ensures .0 ∙ ap all (sym (c .before .before .if3 .left)) ∙ sym (words head)
-
-within : (c : tie.After-unpack-words2) →
-    let a = start (head-at c) .args in
-    Within (c .unpack-words2 .result) (a .o) (a .at) 68
-within c = within-after (omega (arith, past (head-at c))) (omega arith) (c .unpack-words2 .ensures .1)
+-- ---- another count than one
 
 same-length-2 : tie.Need-same-length-2
 same-length-2 c = omega (arith, long (c .before .before .before .before .before .before .before .before .before .before))
 
 returns-4 : tie.Need-returns-4
 returns-4 c =
-    let w = c .before .before .before .before .unpack-words2 in
-    (sym (step-refused _ _ _ (w .result) _ (whole (c .before .before .before .before)) (c .if4 .taken)), (refused-within, λ e. unclaimed e))
+    let w = c .before .before .before .before .before .before in
+    let two = head-at w in
+    let n = two .before .before .before .before .before .number-to in (
+      whole w,
+      (
+        within w,
+        λ e. count-plain _ _ (n .result) (n .ensures .0) (two .before .before .before .if1 .left) (c .if4 .taken),
+      ),
+    )
 
-abbrev one-at : tie.Else4 → tie.After-unpack-words2
-one-at c = c .before .before .before .before
+-- ---- one word
+
+abbrev one-at : tie.Else4 → tie.After-unpack-words
+one-at c = c .before .before .before .before .before .before
 
 -- its bytes stand in the buffer
-fits : (c : tie.Else4) → one-at c .unpack-words2 .result .to ≤ length (start (head-at (one-at c)) .args .out .now)
+fits : (c : tie.Else4) → one-at c .unpack-words .result .to ≤ length (start (head-at (one-at c)) .args .out .now)
 fits c =
-    let w = one-at c .unpack-words2 in
+    let w = one-at c .unpack-words in
     let i = within (one-at c) in
-    let ok = not-false (w .result .ok) (c .if4 .left) in
-    let e = step-done _ _ _ (w .result) _ (w .ensures .0) (c .if4 .left) in
+    let ok = not-false (w .result .ok) (c .before .before .if3 .left) in
+    let two = head-at (one-at c) in
+    let a = start two .args in
+    let v = two .before .before .number48 .result in
+    let all : ℕ → Outcome = λ k. outcome (copied wordAt k (a .s .now) (v .next)) (one-at c .before .before .before .before .put-head .last .0)
+    (a .o + 8) in
+    let e = step-done _ _ _ (w .result) _ (w .ensures .0 ∙ ap all (c .if4 .left)) (c .before .before .if3 .left) in
     room-for (start (head-at (one-at c)) .pre) (w .result .next) (word-inside _ _ _ _ _ _ _ e) (i .fourfold ok) (i .few ok)
 
-from : (c : tie.Else4) → start (head-at (one-at c)) .args .o ≤ one-at c .unpack-words2 .result .to
+from : (c : tie.Else4) → start (head-at (one-at c)) .args .o ≤ one-at c .unpack-words .result .to
 from c =
-    let w = one-at c .unpack-words2 in
-    done-from _ _ _ _ _ _ (step-done _ _ _ (w .result) _ (whole (one-at c)) (c .if4 .left))
+    let w = one-at c .unpack-words in
+    done-from _ _ _ _ _ _ (step-done _ _ _ (w .result) _ (whole (one-at c)) (c .before .before .if3 .left))
 
 sub-is-virtual : tie.Need-sub-is-virtual
 sub-is-virtual c = from c
@@ -170,21 +162,22 @@ part-is-virtual-start c = from (c .before)
 part-is-virtual-end : tie.Need-part-is-virtual-end
 part-is-virtual-end c =
     let k = one-at (c .before) in
-    omega (arith, fits (c .before), long (k .before .before .before .before .before .before))
+    omega (arith, fits (c .before), long (k .before .before .before .before))
 
 is-virtual-requires : tie.Need-is-virtual-requires
 is-virtual-requires c κs = search needs
 
 same-length-3 : tie.Need-same-length-3
-same-length-3 c = let k = one-at (c .before .before .before) in omega (arith, long (k .before .before .before .before .before .before))
+same-length-3 c = let k = one-at (c .before .before .before) in omega (arith, long (k .before .before .before .before))
 
 returns-5 : tie.Need-returns-5
 returns-5 c =
     let four = c .before .before .before in
-    let w = one-at four .unpack-words2 in
-    let e = step-done _ _ _ (w .result) _ (whole (one-at four)) (four .if4 .left) in
+    let w = one-at four .unpack-words in
+    let left = four .before .before .if3 .left in
+    let e = step-done _ _ _ (w .result) _ (whole (one-at four)) left in
     let i = within (one-at four) in
-    let ok = not-false (w .result .ok) (four .if4 .left) in (
+    let ok = not-false (w .result .ok) left in (
       sym e,
       (
         record { few = λ x. i .few ok; fourfold = λ x. i .fourfold ok },
@@ -205,8 +198,6 @@ unpack-identity-spec =
     unpack-words-requires
     same-length
     returns-3
-    add-unpack-words-2
-    unpack-words-requires-2
     same-length-2
     returns-4
     sub-is-virtual

@@ -24,8 +24,8 @@ abbrev μ-loop : tie.MeasureT-loop
 loop-holds : tie.Need-loop-holds Inv-loop μ-loop
 loop-holds c = (refl, omega arith, refl, c .before .before .pre, refl)
 
-number32-requires : tie.Need-number32-requires Inv-loop μ-loop
-number32-requires c κs = search needs
+word32-requires : tie.Need-word32-requires Inv-loop μ-loop
+word32-requires c κs = search needs
 
 same-length : tie.Need-same-length Inv-loop μ-loop
 same-length c = search needs
@@ -33,7 +33,7 @@ same-length c = search needs
 returns : tie.Need-returns Inv-loop μ-loop
 returns c =
     let i = c .before .before .before .before .loop .inv in
-    let n = c .before .before .number32 in
+    let n = c .before .before .word32 in
     let w = word-refused _ _ _ _ (n .result) (n .ensures .0) (c .if1 .taken) in
     (sym (i .4 ∙ copied-refused _ _ _ _ _ _ (c .before .before .before .loop-test .taken) w), refused-within)
 
@@ -43,7 +43,7 @@ room : (c : tie.Else1 Inv-loop μ-loop) →
     l .loop .to + 4 ≤ length (l .before .before .before .args .out .now)
 room c =
     let l = c .before .before .before .before in
-    let n = c .before .before .number32 in
+    let n = c .before .before .word32 in
     let past = number-past 32 _ _ (n .result) (n .ensures .0) (c .if1 .left) in
     room-for (l .loop .inv .3) (n .result .next) (omega arith) (omega (arith, past)) (omega arith)
 
@@ -62,7 +62,7 @@ loop-less c = search needs
 loop-again : tie.Need-loop-again Inv-loop μ-loop
 loop-again c =
     let i = c .before .before .before .before .before .before .before .before .loop .inv in
-    let n = c .before .before .before .before .before .before .number32 in
+    let n = c .before .before .before .before .before .before .word32 in
     let w = word-done _ _ _ _ (n .result) (n .ensures .0) (c .before .before .before .before .if1 .left) in
     let d = copied-done _ _ _ _ _ _ _ _ _ (c .before .before .before .before .before .before .before .loop-test .taken) w in
     let past = number-past 32 _ _ (n .result) (n .ensures .0) (c .before .before .before .before .if1 .left) in
@@ -85,7 +85,7 @@ unpack-words-spec =
     Inv-loop
     μ-loop
     loop-holds
-    number32-requires
+    word32-requires
     same-length
     returns
     put-little-requires

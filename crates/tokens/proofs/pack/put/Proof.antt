@@ -1,4 +1,4 @@
--- `put` meets its contract. A number below 128 is its own byte. The loop's invariant: writing the number at `o` is writing the groups that
+-- `put` meets its contract. A number below 128 is its own byte, and one of five groups is written by `put_five`. The loop's invariant: writing the number at `o` is writing the groups that
 -- are left at `i` (Writes), where there is room. The measure is the number that is left. Assumes nothing.
 use borrow.Author.Needs.{needs}
 use native.Mathlib.Omega.{arith}
@@ -20,7 +20,7 @@ cast-out c = search needs
 
 slice-write-out : tie.Need-slice-write-out Inv-loop μ-loop
 slice-write-out c =
-    let z = c .before in
+    let z = c .before .before in
     let r = writes-room (writes-start (z .args .out .now) (z .args .o) (z .args .v) (z .fits .v .fits)) in
     omega (arith, z .pre)
 
@@ -32,12 +32,21 @@ same-length c = search needs
 
 returns : tie.Need-returns Inv-loop μ-loop
 returns c =
-    let z = c .before in
+    let z = c .before .before in
     writes-last (writes-start (z .args .out .now) (z .args .o) (z .args .v) (z .fits .v .fits)) (c .if1 .taken)
+
+put-five-requires : tie.Need-put-five-requires Inv-loop μ-loop
+put-five-requires c κs = (c .before .before .if2 .taken, c .before .if3 .taken, c .before .before .before .before .before .pre)
+
+same-length-2 : tie.Need-same-length-2 Inv-loop μ-loop
+same-length-2 c = search needs
+
+returns-2 : tie.Need-returns-2 Inv-loop μ-loop
+returns-2 c = c .before .before .put-five .ensures
 
 loop-holds : tie.Need-loop-holds Inv-loop μ-loop
 loop-holds c =
-    let z = c .before in
+    let z = c .before .before .before in
     let w = writes-start (z .args .out .now) (z .args .o) (z .args .v) (z .fits .v .fits) in
     let r = writes-room w in
     (w, z .fits .v .fits, refl, omega (arith, z .pre))
@@ -62,7 +71,7 @@ loop-again c =
     let i = c .before .loop .inv in
     let w = writes-more (i .0) (c .loop-test .taken) in
     let r = writes-room w in
-    (w, omega arith, simp length-set (i .2), simp length-set (omega (arith, c .before .before .before .pre, i .2)))
+    (w, omega arith, simp length-set (i .2), simp length-set (omega (arith, c .before .before .before .before .before .pre, i .2)))
 
 cast-out-3 : tie.Need-cast-out-3 Inv-loop μ-loop
 cast-out-3 c = search needs
@@ -73,11 +82,11 @@ slice-write-out-3 c = search needs
 add-result-2 : tie.Need-add-result-2 Inv-loop μ-loop
 add-result-2 c = search needs
 
-same-length-2 : tie.Need-same-length-2 Inv-loop μ-loop
-same-length-2 c = search needs
+same-length-3 : tie.Need-same-length-3 Inv-loop μ-loop
+same-length-3 c = search needs
 
-returns-2 : tie.Need-returns-2 Inv-loop μ-loop
-returns-2 c = writes-last (c .before .loop .inv .0) (c .loop-test .left)
+returns-3 : tie.Need-returns-3 Inv-loop μ-loop
+returns-3 c = writes-last (c .before .loop .inv .0) (c .loop-test .left)
 
 pub put-spec : {M : Type 1} → statement M
 put-spec =
@@ -90,6 +99,9 @@ put-spec =
     add-result
     same-length
     returns
+    put-five-requires
+    same-length-2
+    returns-2
     loop-holds
     add-out
     cast-out-2
@@ -100,5 +112,5 @@ put-spec =
     cast-out-3
     slice-write-out-3
     add-result-2
-    same-length-2
-    returns-2)
+    same-length-3
+    returns-3)

@@ -1,7 +1,7 @@
 -- `ready` meets its contract: one bit of the cell for allow, the next for deny.
 -- Assumes nothing.
-use Rattle.passes.proofs.chains.ready.Statement.{statement}
-use Rattle.passes.proofs.chains.ready.Tie as tie
+use Rattle.passes.proofs.search.ready.Statement.{statement}
+use Rattle.passes.proofs.search.ready.Tie as tie
 
 returns : tie.Need-returns
 returns c = rw (c .if1 .taken)
