@@ -1,13 +1,14 @@
 -- How many seats the crowds of a listing need (specs: Evaluating): no more than the counts in it say (few-seatable).
 -- Assumes nothing.
 use Prim.Native.Nat.{ℕ, zero, suc, _+_, _≤_}
-use mathlib.Core.Bool.{Bool, true, false, cond, _&&_, false≢true}
+use mathlib.Core.Bool.{Bool, true, false, cond}
 use mathlib.Core.List.{List, [], _∷_}
-use mathlib.Core.Path.{_≡_, refl}
+use mathlib.Core.Path.{_≡_}
 use native.Mathlib.Omega.{arith}
 use borrow.Author.Tests.{ltb-true}
 use lib.Dec.{ltb, eqb}
 use lib.ListN.{length}
+use Rattle.base.proofs.BoolLaws.{both}
 use Rattle.base.specs.Bytes.{part}
 use Rattle.lists.specs.Sid.{sidEnd}
 use Rattle.records.specs.Crowd.{plain, width, memberAt, membersAt, crowdAt, userPlace}
@@ -35,16 +36,9 @@ crowd-beside attrs s at = go (eqb (sidEnd s at) 0) (members-few attrs s (beside 
 -- the first identity of each crowd, and fewer than n beside it
 pub few-seatable : (l : List ℕ) (at n : ℕ) → length l ≤ 32768 → n ≤ 510 → few l at n ≡ true → Seatable l at (n + 1)
 few-seatable l at n short small e =
-    let a = ltb-true (beside l userPlace) n (first (ltb (beside l userPlace) n) (ltb (beside l at) n) e) in
-    let b = ltb-true (beside l at) n (second (ltb (beside l userPlace) n) (ltb (beside l at) n) e) in
+    let f = both (ltb (beside l userPlace) n) (ltb (beside l at) n) e in
+    let a = ltb-true (beside l userPlace) n (f .0) in
+    let b = ltb-true (beside l at) n (f .1) in
     let p = crowd-beside true l userPlace in
     let q = crowd-beside false l at in
     (short, (omega arith, (omega arith, omega arith)))
-  where
-    first : (a b : Bool) → (a && b) ≡ true → a ≡ true
-    first true b z = refl
-    first false b z = absurd (false≢true z)
-
-    second : (a b : Bool) → (a && b) ≡ true → b ≡ true
-    second true b z = z
-    second false b z = absurd (false≢true z)

@@ -145,7 +145,8 @@ module _ (s : List ℕ) (at : ℕ) (inside : at + 5 ≤ length s) (a b c d e : �
     unfolding numOf
     five-groups nonzero few v is =
         let r : Num = record { ok = true; value = e; next = at + 1 + 1 + 1 + 1 + 1 } in
-        let last = among-last 32 s at lower (7 + 7 + 7 + 7) (at + 1 + 1 + 1 + 1) four e (ise ∙ ap (λ (p : ℕ). getD s p 0) (sym fourth)) (omega arith) (omega arith) r
+        let last = among-last 32 s at lower (7 + 7 + 7 + 7) (at + 1 + 1 + 1 + 1) four e (ise ∙ ap (λ (p : ℕ). getD s p 0) (sym fourth))
+        (omega arith) (omega arith) r
         (sym (within-fits 4 e (at + 1 + 1 + 1 + 1 + 1) (omega arith))) in
         sym last ∙ above-some lower (7 + 7 + 7 + 7) r nonzero
         ∙ ap₂ (λ (x n : ℕ). record { ok = true; value = x; next = n }) (omega arith) (omega arith)

@@ -1,5 +1,5 @@
 // Numbers in groups of seven bits, lowest first, shortest form only. One reader over the width;
-// 32, 48 and 64 bits are its three doors.
+// 32, 48 and 64 bits are its three doors. `word32` is a fourth, with a short way of its own.
 ghost use mathlib.Core.Path.{_≡_};
 ghost use Prim.Native.Nat.{_+_, _≤_, _<_, _^_};
 ghost use lib.ListN.{length};

@@ -169,7 +169,8 @@ module _ (s : List ℕ) (short : length s ≤ 32768) (m : ℕ) (narrow : m ≤ 5
     where
       held : (allow : Bool) (w : List ℕ) (y : Member) → y ≡ seated s x → ltb (length s) (toIn c) ≡ false →
           eqb (lastIn c) (lastOf (y .sid)) ≡ true →
-          (cond (ltb (length s) (toIn c)) false (eqb (lastIn c) (lastOf (y .sid))) && (same (y .sid) w && cond allow (y .allows) (y .denies)))
+          (cond (ltb (length s) (toIn c)) false (eqb (lastIn c) (lastOf (y .sid))) && (same (y .sid) w && cond allow (y .allows) (y
+          .denies)))
           ≡ (same sid w && cond allow (x .allows) (x .denies))
       held allow w y e p q = rw (p, q, e)
 

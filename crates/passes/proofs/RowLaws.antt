@@ -8,7 +8,7 @@ use native.Mathlib.Omega.{arith}
 use lib.Dec.{eqb}
 use lib.ListN.{getD, set}
 use lib.Seq.{getD-set-other}
-use Rattle.base.proofs.BoolLaws.{true-false}
+use Rattle.base.proofs.BoolLaws.{neither}
 use Rattle.records.specs.Crowd.{Member}
 use Rattle.passes.specs.Chains.{lastIn, sitsIn, joined, row}
 use Rattle.passes.specs.Key.{lastOf}
@@ -47,7 +47,8 @@ module _ (allow : Bool) (seats s w : List ℕ) where
 
   module _ (n less x : ℕ) (one : n ≡ suc less) (here : x ≡ getD seats n 0) where
     pub row-hit : sitsIn allow s x w ≡ true → Found n ≡ true
-    row-hit e = ap (λ (l : List Member). among allow l w) (row-first seats s n less x one here) ∙ joined-hit allow s x w (row seats s less) e
+    row-hit e =
+        ap (λ (l : List Member). among allow l w) (row-first seats s n less x one here) ∙ joined-hit allow s x w (row seats s less) e
 
     pub row-more : sitsIn allow s x w ≡ false → Found n ≡ Found less
     row-more e =
@@ -62,17 +63,10 @@ module _ (allow : Bool) (seats s w : List ℕ) where
 
   pub row-four : (n : ℕ) → 4 ≤ n → ((Ends n || Ends (n - 1)) || (Ends (n - 2) || Ends (n - 3))) ≡ false → Found n ≡ Found (n - 4)
   row-four n h e =
-      let upper : (Ends n || Ends (n - 1)) ≡ false = first (Ends n || Ends (n - 1)) (Ends (n - 2) || Ends (n - 3)) e in
-      let lower : (Ends (n - 2) || Ends (n - 3)) ≡ false = second (Ends n || Ends (n - 1)) (Ends (n - 2) || Ends (n - 3)) e in
-      row-past n (n - 1) (one n (by 0 n h (omega arith))) (first (Ends n) (Ends (n - 1)) upper)
-      ∙ row-past (n - 1) (n - 2) (down 1 n (by 1 n h (omega arith))) (second (Ends n) (Ends (n - 1)) upper)
-      ∙ row-past (n - 2) (n - 3) (down 2 n (by 2 n h (omega arith))) (first (Ends (n - 2)) (Ends (n - 3)) lower)
-      ∙ row-past (n - 3) (n - 4) (down 3 n (by 3 n h (omega arith))) (second (Ends (n - 2)) (Ends (n - 3)) lower)
-    where
-      first : (a b : Bool) → (a || b) ≡ false → a ≡ false
-      first true b z = z
-      first false b z = refl
-
-      second : (a b : Bool) → (a || b) ≡ false → b ≡ false
-      second true b z = true-false z
-      second false b z = z
+      let all = neither (Ends n || Ends (n - 1)) (Ends (n - 2) || Ends (n - 3)) e in
+      let upper = neither (Ends n) (Ends (n - 1)) (all .0) in
+      let lower = neither (Ends (n - 2)) (Ends (n - 3)) (all .1) in
+      row-past n (n - 1) (one n (by 0 n h (omega arith))) (upper .0)
+      ∙ row-past (n - 1) (n - 2) (down 1 n (by 1 n h (omega arith))) (upper .1)
+      ∙ row-past (n - 2) (n - 3) (down 2 n (by 2 n h (omega arith))) (lower .0)
+      ∙ row-past (n - 3) (n - 4) (down 3 n (by 3 n h (omega arith))) (lower .1)

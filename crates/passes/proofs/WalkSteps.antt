@@ -22,6 +22,7 @@ use Rattle.passes.specs.OneWalk.{walkedBy, walkedFrom, walkedOf}
 use Rattle.passes.specs.declared.matching.Hits.{Hits}
 use Rattle.masks.specs.declared.tally.Tally.{Tally}
 use Rattle.base.proofs.BitsLaws.{within-covers}
+use Rattle.base.proofs.BoolLaws.{neither}
 use Rattle.masks.proofs.MasksLaws.{entry-mask-within}
 use Rattle.masks.proofs.TallyLaws.{allowing-decided, denying-decided}
 
@@ -121,11 +122,7 @@ module _ (named : Bool) (x : Entry) where
   names-skipped e = rw (e, or-false named)
 
   pub names-other : virtual (x .sid) ≡ false → named ≡ (named || (counts x && same (x .sid) ownerRights))
-  names-other v = rw (first (same (x .sid) ownerRights) (same (x .sid) principalSelf) v, and-false (counts x), or-false named)
-    where
-      first : (a b : Bool) → (a || b) ≡ false → a ≡ false
-      first true b e = e
-      first false b e = refl
+  names-other v = rw (neither (same (x .sid) ownerRights) (same (x .sid) principalSelf) v .0, and-false (counts x), or-false named)
 
   pub names-counted : skipped x ≡ false → (named || same (x .sid) ownerRights) ≡ (named || (counts x && same (x .sid) ownerRights))
   names-counted e = rw e

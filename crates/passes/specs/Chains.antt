@@ -107,7 +107,8 @@ unfoldable pub linked : List ℕ → Tables → ℕ → Seat → Tables
 linked s t i x =
     let w = part s (x .from) (x .to) in
     let k = keyOf w in
-    tables (set (t .heads) k (i % 65536)) (set (t .seats) i (cellOf (x .from) (x .to) (getD (t .heads) k 0) (x .allows) (x .denies) (lastOf w)))
+    let c = cellOf (x .from) (x .to) (getD (t .heads) k 0) (x .allows) (x .denies) (lastOf w) in
+    tables (set (t .heads) k (i % 65536)) (set (t .seats) i c)
 
 -- no SID stands there, or there are no more numbers
 abbrev pub stops : Tables → ℕ → Seat → Bool

@@ -1,5 +1,5 @@
-// The seats of a crowd, numbered and chained by the keys of their SIDs, so that a search meets only
-// those that share a key.
+// The seats of a crowd, numbered and chained by the keys of their SIDs, so that a search begins
+// with those that share a key.
 ghost use mathlib.Core.Path.{_≡_};
 ghost use mathlib.Core.Bool.{cond};
 ghost use Prim.Native.Nat.{_≤_};
@@ -17,8 +17,8 @@ fn when(b: bool, n: u64) -> u64
     if b { n } else { 0 }
 }
 
-// The cell of a seat: where its SID stands, the number of the next seat of its chain, and how it
-// matches.
+// The cell of a seat: where its SID stands, the number of the next seat of its chain, how it
+// matches, and the SID's last word.
 fn cell(x: Seat, next: u16, word: u32) -> u64
     requires { ⌜ x .from ≤ x .to ⌝ }
     ensures { λ r. ⌜ r ≡ cellOf (x .from) (x .to) next (x .allows) (x .denies) word ⌝ }

@@ -3,8 +3,8 @@ ghost use mathlib.Core.Path.{_≡_};
 ghost use Prim.Native.Nat.{_<_};
 ghost use Rattle.passes.specs.Key.{mixed, spread, keyOf, lastOf};
 
-// All words of a SID in one number, two at a time. Most SIDs have one word, or five: for these there
-// is no loop.
+// All words of a SID in one number, two at a time. Most SIDs have one word, or five: for these
+// there is no loop.
 fn mixed(w: &[u8]) -> u64
     ensures { λ r. ⌜ r ≡ mixed (now (w .entry)) ⌝ }
 {

@@ -45,9 +45,9 @@ fn names(before: bool, w: &[u8]) -> bool
 }
 
 // The pass of a list, which was judged before, against those whom the tables of chains show: each
-// entry in stored order, each against the identities that share its key. With the chains of a crowd
-// they decide as the whole crowd does. `hits` answers for the two virtual identities. Where all bits
-// are decided only S-1-3-4 is looked for.
+// entry in stored order, each against the identities that share its key, and where these stand close
+// together against all below. With the chains of a crowd they decide as the whole crowd does. `hits`
+// answers for the two virtual identities. Where all bits are decided only S-1-3-4 is looked for.
 pub fn pass(
     kind: u32,
     list: &[u8],

@@ -10,6 +10,7 @@ use lib.ListN.{length}
 use lib.Dec.{ltb, eqb}
 use borrow.Author.Tests.{ltb-true, ltb-false, ne-eqb, eqb-true, eqb-false}
 use Rattle.base.specs.Bytes.{byteAt, u32At}
+use Rattle.base.proofs.BoolLaws.{neither}
 use Rattle.base.proofs.WordsLaws.{u32-at-out}
 use Rattle.lists.proofs.ByLengthLaws.{entries-by-length, entries-by-none}
 use Rattle.lists.specs.Acl.{aclEnd, scanOf, entriesOf}
@@ -112,10 +113,6 @@ pub record PlainRule (s : List ℕ) (r : Rule) : Type 0 where
   pub effective : aclSection true (bytesOf s (r .effective)) ≡ Plain
   pub staged : maybeAcl true (bytesOf s (r .staged)) ≡ Plain
 
-or-false : (a b : Bool) → (a || b) ≡ false → (a ≡ false) × (b ≡ false)
-or-false true b e = let z : _≡_ {A = ℕ} 0 1 = cc in absurd (omega arith)
-or-false false b e = (refl, e)
-
 pub plain-rule : (s : List ℕ) (at : ℕ) → (ruleAt s at .next ≡ 0 → ⊥) → ruleAt s at .unread ≡ false → PlainRule s (ruleAt s at)
 unfolding ruleAt
 plain-rule s at h u =
@@ -125,11 +122,11 @@ plain-rule s at h u =
     let staged = sectionAt s (sacl .to) in
     let f = shaped-rule s applies dacl sacl staged (sectionAt s (staged .to)) h in
     let o =
-    or-false
+    neither
     (ltb (applies .from) (applies .to) || alien (listIn s dacl))
     (alien (maybeIn true s staged))
     (ap (λ (r : Rule). r .unread) (sym (f .is)) ∙ u) in
-    let a = or-false (ltb (applies .from) (applies .to)) (alien (listIn s dacl)) (o .0) in
+    let a = neither (ltb (applies .from) (applies .to)) (alien (listIn s dacl)) (o .0) in
     record {
       there = h;
       effective =

@@ -1,5 +1,5 @@
 -- Laws of what unpacking says of the token rules.
--- In order: a claim that is not made and two that are (unclaimed, both-left, both-right), the place after what was written (done-from,
+-- In order: a claim that is not made (unclaimed), the place after what was written (done-from,
 -- word-inside), an identity (count-plain, told-plain), groups (groups-none, groups-more), a token without flags (unflagged,
 -- people-keeping). Not here: the whole record, RecordAnswer. Assumes nothing.
 use Prim.Native.Nat.{ℕ, zero, suc, _+_, _-_, _<_, _≤_}
@@ -35,21 +35,6 @@ use Rattle.records.proofs.RecordBytes.{group-is}
 
 pub unclaimed : {A : Type 0} → false ≡ true → A
 unclaimed e = let z : _≡_ {A = ℕ} 0 1 = cc in absurd (omega arith)
-
-module _ (a b : Bool) where
-  pub both-left : a && b ≡ true → a ≡ true
-  both-left e = go a e
-    where
-      go : (x : Bool) → x && b ≡ true → x ≡ true
-      go true h = refl
-      go false h = h
-
-  pub both-right : a && b ≡ true → b ≡ true
-  both-right e = go a e
-    where
-      go : (x : Bool) → x && b ≡ true → b ≡ true
-      go true h = h
-      go false h = unclaimed h
 
 -- ---- the place after what was written
 

@@ -45,9 +45,11 @@ returns-2 c =
     let k = c .before .before .before .before .before .before .before .before .before .chain-crowd in
     let f = c .before .before .before .before .before .before .before .before .before .before .before .before .before .confines in
     let u = c .before .before .before .before .before .before .before .before .before .before .before .before .before .before .u32-at in
-    let s = c .before .before .before .before .before .before .before .before .before .before .before .before .before .before .before .before .before .before .before .before in
+    let s = c .before .before .before .before .before .before .before .before .before .before .before .before .before .before .before
+    .before .before .before .before .before in
     let a = s .args in
-    let on = ap confines (sym (u .ensures)) ∙ sym (f .ensures) ∙ not-false (f .result) (c .before .before .before .before .before .before .before .before .before .before .before .before .if1 .left) in
+    let on = ap confines (sym (u .ensures)) ∙ sym (f .ensures) ∙ not-false (f .result) (c .before .before .before .before .before .before
+    .before .before .before .before .before .before .if1 .left) in
     let alike = crowd-shown false (a .listing .now) (a .place) _ _ _ _ (s .pre .0) (s .pre .1 .0) (s .pre .1 .1 .1) refl (k .ensures .0)
     (k .ensures .1) in
     c .listed .ensures

@@ -36,7 +36,9 @@ ruled-by-requires : tie.Need-ruled-by-requires
 ruled-by-requires c κs = search needs
 
 same-length : tie.Need-same-length
-same-length c = c .before .before .before .before .before .before .before .before .before .before .before .before .before .before .before .before .before .seats2 .given ∙ c .before .before .before .before .before .before .before .before .before .before .before .before .before .before .before .before .before .before .before .before .before .before .seats .given
+same-length c = c .before .before .before .before .before .before .before .before .before .before .before .before .before .before .before
+    .before .before .seats2 .given ∙ c .before .before .before .before .before .before .before .before .before .before .before .before
+    .before .before .before .before .before .before .before .before .before .before .seats .given
 
 returns : tie.Need-returns
 returns c =
@@ -45,11 +47,14 @@ returns c =
     let p = c .before .before .before .before .before .before .before .before .before .pass in
     let u = c .before .before .before .before .before .before .before .before .before .before .before .before .u32-at in
     let h = c .before .before .before .before .before .before .before .before .before .before .before .before .before .hits in
-    let k = c .before .before .before .before .before .before .before .before .before .before .before .before .before .before .before .before .before .before .chain-crowd in
-    let s = c .before .before .before .before .before .before .before .before .before .before .before .before .before .before .before .before .before .before .before .before .before .before .before .before .before .before .before .before .before .before .before in
+    let k = c .before .before .before .before .before .before .before .before .before .before .before .before .before .before .before
+    .before .before .before .chain-crowd in
+    let s = c .before .before .before .before .before .before .before .before .before .before .before .before .before .before .before
+    .before .before .before .before .before .before .before .before .before .before .before .before .before .before .before .before in
     let a = s .args in
     let l = a .listing .now in
-    let long = c .before .before .before .before .before .before .before .before .before .before .before .before .before .before .before .before .before .before .before .before .before .before .seats .given in
+    let long = c .before .before .before .before .before .before .before .before .before .before .before .before .before .before .before
+    .before .before .before .before .before .before .before .seats .given in
     let alike = crowd-shown true l userPlace _ _ _ _ (s .pre .0) (omega (arith, long, s .pre .1 .0))
     (omega (arith, long, s .pre .1 .1 .0)) refl (k .ensures .0) (k .ensures .1) in
     found-made (a .kind) l (a .place) (a .owner .now) (a .me .now) (a .present) (a .list .now) (rulesByLengths (a .policy .now)) _ _ _
@@ -57,7 +62,8 @@ returns c =
     ∙ normal-walked (a .kind) _ _ alike (a .owner .now) (a .me .now) (a .present) _ (a .list .now) (h .result) (p .result) (h .ensures)
     (p .ensures)
     ∙ rw (u .ensures) refl)
-    (c .before .before .before .before .before .before .before .before .before .before .before .before .before .before .before .before .before .before .before .before .before .before .before .confinement .ensures)
+    (c .before .before .before .before .before .before .before .before .before .before .before .before .before .before .before .before
+    .before .before .before .before .before .before .before .confinement .ensures)
     (rules-shown (a .kind) _ _ alike (a .owner .now) (a .me .now) _ (rulesByLengths (a .policy .now)) (h .result) (r .result) (h .ensures)
     (r .ensures)
     ∙ rw (u .ensures) refl)

@@ -106,11 +106,25 @@ add-result-3 c = search needs
 returns-7 : tie.Need-returns-7
 returns-7 c = λ k.
     let z = c .before .before .before .before .before .before .before .before .before .before .before .before .before .before .before in
-    five-groups (z .args .s .now) (z .args .at) (omega (arith, c .before .before .before .before .before .before .before .before .before .before .before .before .before .if1 .left, z .pre .0))
-    (z .args .first) (c .before .before .before .before .before .before .before .before .before .before .before .wide .result) (c .before .before .before .before .before .before .before .before .before .wide2 .result) (c .before .before .before .before .before .before .before .wide3 .result) (c .before .before .before .before .before .wide4 .result)
-    (z .pre .1) (c .before .before .before .before .before .before .before .before .before .before .before .wide .ensures .0) (c .before .before .before .before .before .before .before .before .before .wide2 .ensures .0) (c .before .before .before .before .before .before .before .wide3 .ensures .0) (c .before .before .before .before .before .wide4 .ensures .0)
-    (z .pre .2) (z .pre .3) (omega (arith, c .before .before .before .before .if2 .left)) (c .before .before .before .before .before .before .before .before .before .before .before .wide .ensures .1) (omega (arith, c .before .before .before .if3 .left))
-    (c .before .before .before .before .before .before .before .before .before .wide2 .ensures .1) (omega (arith, c .before .before .if4 .left)) (c .before .before .before .before .before .before .before .wide3 .ensures .1)
+    five-groups (z .args .s .now) (z .args .at) (omega (
+      arith,
+      c .before .before .before .before .before .before .before .before .before
+          .before .before .before .before .if1 .left,
+      z .pre .0,
+    ))
+    (z .args .first) (c .before .before .before .before .before .before .before .before .before .before .before .wide .result) (c .before
+    .before .before .before .before .before .before .before .before .wide2 .result) (c .before .before .before .before .before .before
+    .before .wide3 .result) (c .before .before .before .before .before .wide4 .result)
+    (z .pre .1) (c .before .before .before .before .before .before .before .before .before .before .before .wide .ensures .0) (c .before
+    .before .before .before .before .before .before .before .before .wide2 .ensures .0) (c .before .before .before .before .before .before
+    .before .wide3 .ensures .0) (c .before .before .before .before .before .wide4 .ensures .0)
+    (z .pre .2) (z .pre .3) (omega (arith, c .before .before .before .before .if2 .left)) (c .before .before .before .before .before
+    .before .before .before .before .before .before .wide .ensures .1) (omega (arith, c .before .before .before .if3 .left))
+    (c .before .before .before .before .before .before .before .before .before .wide2 .ensures .1) (omega (
+      arith,
+      c .before .before .if4
+          .left,
+    )) (c .before .before .before .before .before .before .before .wide3 .ensures .1)
     (c .if6 .left) (omega (arith, c .before .if5 .left)) _ refl
 
 pub five-spec : {M : Type 1} → statement M

@@ -1,12 +1,13 @@
 -- `among` meets its contract. The invariant: the chain from this number on, or the row from it down, has the SID where those whom the tables
 -- show have it; the measure is the number. Assumes nothing.
 use Prim.Native.Nat.{ℕ, suc, _-_, _≤_}
-use mathlib.Core.Bool.{Bool, true, false, cond, _||_, or-true, or-false, false≢true}
+use mathlib.Core.Bool.{Bool, true, false, cond, _||_, or-true, or-false}
 use mathlib.Core.List.{List}
 use mathlib.Core.Logic.{⊎-elim}
 use mathlib.Core.Path.{_≡_, refl, sym, ap, _∙_}
 use native.Mathlib.Omega.{arith}
 use lib.ListN.{length, getD}
+use Rattle.base.proofs.BoolLaws.{neither}
 use Rattle.passes.specs.Chains.{nextIn, sitsIn, near, row, chain, shown}
 use Rattle.passes.specs.Matching.{among}
 use Rattle.passes.proofs.ChainsLaws.{among-start, chain-none, chain-hit, chain-near, chain-more, far-below}
@@ -44,30 +45,43 @@ module _ (allow : Bool) (seats s w : List ℕ) (n : ℕ) where
     miss false true after e p q = chain-near allow seats s w n less x one here e (ap (near n) (sym p) ∙ sym q)
     miss false false after e p q = chain-more allow seats s w n less x one here after e p (sym q)
 
-both-false : (a b : Bool) → (a || b) ≡ false → (a ≡ false) × (b ≡ false)
-both-false true b e = absurd (false≢true (sym e))
-both-false false b e = (refl, e)
-
 -- down the row: before, or from here on
-turned : (c : tie.Joined3 Inv-loop μ-loop) → c .if3 .down ≡ (c .before .before .before .before .before .before .before .loop .down || c .before .is-near .result)
+turned : (c : tie.Joined3 Inv-loop μ-loop) → c .if3 .down ≡ (c .before .before .before .before .before .before .before .loop .down || c
+    .before .is-near .result)
 turned c =
     ⊎-elim
-    (λ w. w .1 ∙ sym (ap (λ (b : Bool). c .before .before .before .before .before .before .before .loop .down || b) (w .0 .taken) ∙ or-true (c .before .before .before .before .before .before .before .loop .down)))
-    (λ w. w .1 ∙ sym (ap (λ (b : Bool). c .before .before .before .before .before .before .before .loop .down || b) (w .0 .left) ∙ or-false (c .before .before .before .before .before .before .before .loop .down)))
+    (λ w. w .1 ∙ sym (ap (λ (b : Bool). c .before .before .before .before .before .before .before .loop .down || b) (w .0 .taken) ∙ or-true
+    (c .before .before .before .before .before .before .before .loop .down)))
+    (λ w. w .1 ∙ sym (ap (λ (b : Bool). c .before .before .before .before .before .before .before .loop .down || b) (w .0 .left) ∙ or-false
+    (c .before .before .before .before .before .before .before .loop .down)))
     (c .if3 .came)
 
 -- the seat is not the SID's
 stepped : (c : tie.Joined3 Inv-loop μ-loop) →
-    among (c .before .before .before .before .before .before .before .before .before .before .before .before .before .args .allow) (shown (c .before .before .before .before .before .before .before .before .before .before .before .before .before .args .heads .now) (c .before .before .before .before .before .before .before .before .before .before .before .before .before .args .seats .now) (c .before .before .before .before .before .before .before .before .before .before .before .before .before .args .listing .now))
+    among (c .before .before .before .before .before .before .before .before .before .before .before .before .before .args .allow) (shown
+    (c .before .before .before .before .before .before .before .before .before .before .before .before .before .args .heads .now) (c
+    .before .before .before .before .before .before .before .before .before .before .before .before .before .args .seats .now) (c .before
+    .before .before .before .before .before .before .before .before .before .before .before .before .args .listing .now))
     (c .before .before .before .before .before .before .before .before .before .before .before .before .before .args .w .now)
-    ≡ among (c .before .before .before .before .before .before .before .before .before .before .before .before .before .args .allow) (cond (c .if3 .down) (row (c .before .before .before .before .before .before .before .before .before .before .before .before .before .args .seats .now) (c .before .before .before .before .before .before .before .before .before .before .before .before .before .args .listing .now) (c .before .before .before .before .before .before .before .loop .n - 1))
-    (chain (c .before .before .before .before .before .before .before .before .before .before .before .before .before .args .seats .now) (c .before .before .before .before .before .before .before .before .before .before .before .before .before .args .listing .now) (c .before .before .next .result) (c .before .before .next .result))) (c .before .before .before .before .before .before .before .before .before .before .before .before .before .args .w .now)
+    ≡ among (c .before .before .before .before .before .before .before .before .before .before .before .before .before .args .allow) (cond
+    (c .if3 .down) (row (c .before .before .before .before .before .before .before .before .before .before .before .before .before .args
+    .seats .now) (c .before .before .before .before .before .before .before .before .before .before .before .before .before .args .listing
+    .now) (c .before .before .before .before .before .before .before .loop .n - 1))
+    (chain (c .before .before .before .before .before .before .before .before .before .before .before .before .before .args .seats .now) (c
+    .before .before .before .before .before .before .before .before .before .before .before .before .before .args .listing .now) (c .before
+    .before .next .result) (c .before .before .next .result))) (c .before .before .before .before .before .before .before .before .before
+    .before .before .before .before .args .w .now)
 stepped c =
     let a = c .before .before .before .before .before .before .before .before .before .before .before .before .before .args in
     let l = c .before .before .before .before .before .before .before .loop in
     l .inv .1
-    ∙ miss (a .allow) (a .seats .now) (a .listing .now) (a .w .now) (l .n) (l .n - 1) _ (omega (arith, c .before .before .before .before .before .before .if1 .left)) refl
-    (l .down) (c .before .is-near .result) (c .before .before .next .result) (sym (c .before .before .before .before .sits .ensures) ∙ c .before .before .before .if2 .left)
+    ∙ miss (a .allow) (a .seats .now) (a .listing .now) (a .w .now) (l .n) (l .n - 1) _ (omega (
+      arith,
+      c .before .before .before .before
+          .before .before .if1 .left,
+    )) refl
+    (l .down) (c .before .is-near .result) (c .before .before .next .result) (sym (c .before .before .before .before .sits .ensures) ∙ c
+    .before .before .before .if2 .left)
     (c .before .before .next .ensures .0) (c .before .is-near .ensures)
     ∙ rw (turned c)
 
@@ -126,14 +140,18 @@ loop-again c =
 
 loop-less-2 : tie.Need-loop-less-2 Inv-loop μ-loop
 loop-less-2 c =
-    far-below (c .before .before .before .before .before .before .before .before .loop .n) (c .before .before .before .next .result) (c .before .before .before .before .before .before .before .if1 .left)
-    (sym (c .before .before .is-near .ensures) ∙ both-false (c .before .before .before .before .before .before .before .before .loop .down) (c .before .before .is-near .result) (sym (turned (c .before)) ∙ c .if4 .left) .1)
+    far-below (c .before .before .before .before .before .before .before .before .loop .n) (c .before .before .before .next .result) (c
+    .before .before .before .before .before .before .before .if1 .left)
+    (sym (c .before .before .is-near .ensures) ∙ neither (c .before .before .before .before .before .before .before .before .loop .down) (c
+    .before .before .is-near .result) (sym (turned (c .before)) ∙ c .if4 .left) .1)
 
 loop-again-2 : tie.Need-loop-again-2 Inv-loop μ-loop
 loop-again-2 c =
     let l = c .before .before .before .before .before .before .before .before .loop in
-    let less = far-below (l .n) (c .before .before .before .next .result) (c .before .before .before .before .before .before .before .if1 .left)
-    (sym (c .before .before .is-near .ensures) ∙ both-false (c .before .before .before .before .before .before .before .before .loop .down) (c .before .before .is-near .result) (sym (turned (c .before)) ∙ c .if4 .left) .1) in
+    let less = far-below (l .n) (c .before .before .before .next .result) (c .before .before .before .before .before .before .before .if1
+    .left)
+    (sym (c .before .before .is-near .ensures) ∙ neither (c .before .before .before .before .before .before .before .before .loop .down) (c
+    .before .before .is-near .result) (sym (turned (c .before)) ∙ c .if4 .left) .1) in
     (omega (arith, less, l .inv .0), stepped (c .before) ∙ rw (c .if4 .left))
 
 pub among-spec : {M : Type 1} → statement M

@@ -263,7 +263,8 @@ search-holds c =
 
 mul-x : tie.Need-mul-x Inv-search μ-search Inv-entries μ-entries
 mul-x c =
-    let p = c .before .before .before .before .before .before .before .before .before .before .before .before .before .before .before .before .before in
+    let p = c .before .before .before .before .before .before .before .before .before .before .before .before .before .before .before
+    .before .before in
     let z = p .before .before .before .before .before .before .before .before .before .before in
     let within : c .before .search .n < length (z .args .seats .now) = omega (arith, c .before .search .inv .0, c .if7 .left) in
     let room = z .good .1 .1 .1 .1 .0 in
@@ -288,9 +289,11 @@ search-row-requires : tie.Need-search-row-requires Inv-search μ-search Inv-entr
 search-row-requires c κs = omega (arith, c .before .before .before .before .before .before .before .search .inv .0)
 
 -- the next seat of the chain is below
-below : (c : tie.Else9 Inv-search μ-search Inv-entries μ-entries) → c .before .before .next .result < c .before .before .before .before .before .before .before .search .n
+below : (c : tie.Else9 Inv-search μ-search Inv-entries μ-entries) → c .before .before .next .result < c .before .before .before .before
+    .before .before .before .search .n
 below c =
-    far-below (c .before .before .before .before .before .before .before .search .n) (c .before .before .next .result) (c .before .before .before .before .before .before .if7 .left)
+    far-below (c .before .before .before .before .before .before .before .search .n) (c .before .before .next .result) (c .before .before
+    .before .before .before .before .if7 .left)
     (sym (c .before .is-near .ensures) ∙ c .if9 .left)
 
 search-less : tie.Need-search-less Inv-search μ-search Inv-entries μ-entries
@@ -298,22 +301,28 @@ search-less c = below c
 
 search-again : tie.Need-search-again Inv-search μ-search Inv-entries μ-entries
 search-again c =
-    let p = c .before .before .before .before .before .before .before .before .before .before .before .before .before .before .before .before .before .before .before .before .before .before .before in
+    let p = c .before .before .before .before .before .before .before .before .before .before .before .before .before .before .before
+    .before .before .before .before .before .before .before .before in
     let a = p .before .before .before .before .before .before .before .before .before .before .args in
     let l = c .before .before .before .before .before .before .before .search in
     let less = below c in (
       omega (arith, less, l .inv .0),
       l .inv .1
           ∙ chain-more (eqb (ace-of p .kind) 0) (a .seats .now) (a .listing .now) (who-of p) (l .n) (l .n - 1) _ (omega (arith, less))
-          refl (c .before .before .next .result) (sym (c .before .before .before .before .sits .ensures) ∙ c .before .before .before .if8 .left) (c .before .before .next .ensures .0)
+          refl (c .before .before .next .result) (sym (c .before .before .before .before .sits .ensures) ∙ c .before .before .before .if8
+          .left) (c .before .before .next .ensures .0)
           (sym (c .before .is-near .ensures) ∙ c .if9 .left),
     )
 
 -- what the search gave: whether one of those shown matches
 found : (c : tie.Joined7 Inv-search μ-search Inv-entries μ-entries) →
-    c .if7 .hit ≡ among (eqb (ace-of (c .before .before .before .before .before .before .before .before .before .before .before .before .before .before .before .before .before) .kind) 0) (crowd-of (c .before .before .before .before .before .before .before .before .before .before .before .before .before .before .before .before .before)) (who-of (c .before .before .before .before .before .before .before .before .before .before .before .before .before .before .before .before .before))
+    c .if7 .hit ≡ among (eqb (ace-of (c .before .before .before .before .before .before .before .before .before .before .before .before
+    .before .before .before .before .before) .kind) 0) (crowd-of (c .before .before .before .before .before .before .before .before .before
+    .before .before .before .before .before .before .before .before)) (who-of (c .before .before .before .before .before .before .before
+    .before .before .before .before .before .before .before .before .before .before))
 found c =
-    let p = c .before .before .before .before .before .before .before .before .before .before .before .before .before .before .before .before .before in
+    let p = c .before .before .before .before .before .before .before .before .before .before .before .before .before .before .before
+    .before .before in
     let a = p .before .before .before .before .before .before .before .before .before .before .args in
     let l = c .before .search in
     let allow = eqb (ace-of p .kind) 0 in
@@ -336,17 +345,21 @@ step-requires-2 c κs = search needs
 
 entries-less-6 : tie.Need-entries-less-6 Inv-search μ-search Inv-entries μ-entries
 entries-less-6 c =
-    let p = c .before .before .before .before .before .before .before .before .before .before .before .before .before .before .before .before .before .before in
+    let p = c .before .before .before .before .before .before .before .before .before .before .before .before .before .before .before
+    .before .before .before in
     omega (arith, p .before .before .entries-test .taken)
 
 entries-again-6 : tie.Need-entries-again-6 Inv-search μ-search Inv-entries μ-entries
 entries-again-6 c =
-    let p = c .before .before .before .before .before .before .before .before .before .before .before .before .before .before .before .before .before .before in
-    let f = c .before .before .before .before .before .before .before .before .before .before .before .before .before .before .before .before .before .counts in
+    let p = c .before .before .before .before .before .before .before .before .before .before .before .before .before .before .before
+    .before .before .before in
+    let f = c .before .before .before .before .before .before .before .before .before .before .before .before .before .before .before
+    .before .before .counts in
     let m = c .before .before .before .before .before .before .entry-mask2 in
     let other = other-in (c .before .before .before .before .before .before .before .before .before .before .before .before) in
     let counted = not-true (has (ace-of p .flags) 0x08) (sym (f .ensures) ∙ not-false (f .result)
-    (c .before .before .before .before .before .before .before .before .before .before .before .before .before .before .before .before .if2 .left)) in
+    (c .before .before .before .before .before .before .before .before .before .before .before .before .before .before .before .before .if2
+    .left)) in
     let mine = matches-among (eqb (ace-of p .kind) 0) (crowd-of p) (who-of p) (hits-of p) other in
     on p (c .step2 .result) (named-of p) (names-other (named-of p) (entry-of p) other)
     (c .step2 .ensures

@@ -29,7 +29,8 @@ loop-holds c =
     let a = c .before .before .before .before .args in (
       omega arith,
       ap
-          (λ (m : ℕ). Left (a .kind) (shown (a .heads .now) (a .seats .now) (a .listing .now)) (a .hits) (a .privileges) (a .s .now) (ruled everything 0) m 5)
+          (λ (m : ℕ). Left (a .kind) (shown (a .heads .now) (a .seats .now) (a .listing .now)) (a .hits) (a .privileges) (a .s .now) (ruled
+          everything 0) m 5)
           (omega (arith, c .u32-at .ensures)),
     )
 
@@ -44,7 +45,8 @@ returns c =
     let r = c .before .rule-by-lengths in
     sym
     (i .inv .1
-    ∙ left-stop (a .kind) (shown (a .heads .now) (a .seats .now) (a .listing .now)) (a .hits) (a .privileges) (a .s .now) (i .so-far) (n .u32-at .result) (i .k) (i .place) (r .result) (omega arith) (r .ensures .0) (c .if1 .taken))
+    ∙ left-stop (a .kind) (shown (a .heads .now) (a .seats .now) (a .listing .now)) (a .hits) (a .privileges) (a .s .now) (i .so-far) (n
+    .u32-at .result) (i .k) (i .place) (r .result) (omega arith) (r .ensures .0) (c .if1 .taken))
 
 judged-requires : tie.Need-judged-requires Inv-loop μ-loop
 judged-requires c κs = search needs
@@ -63,7 +65,8 @@ loop-again c =
     let r = c .before .before .rule-by-lengths in (
       omega arith,
       i .inv .1
-          ∙ left-more (a .kind) (shown (a .heads .now) (a .seats .now) (a .listing .now)) (a .hits) (a .privileges) (a .s .now) (i .so-far) (n .u32-at .result) (i .k) (i .place) (r .result) (c .judged .result)
+          ∙ left-more (a .kind) (shown (a .heads .now) (a .seats .now) (a .listing .now)) (a .hits) (a .privileges) (a .s .now) (i .so-far)
+          (n .u32-at .result) (i .k) (i .place) (r .result) (c .judged .result)
           (omega arith) (r .ensures .0) (c .before .if1 .left) (c .judged .ensures),
     )
 
@@ -72,7 +75,8 @@ returns-2 c =
     let i = c .before .loop in
     let n = c .before .before in
     let a = n .before .before .before .before .args in
-    sym (i .inv .1 ∙ left-end (a .kind) (shown (a .heads .now) (a .seats .now) (a .listing .now)) (a .hits) (a .privileges) (a .s .now) (i .so-far) (n .u32-at .result) (i .k) (i .place) (omega arith))
+    sym (i .inv .1 ∙ left-end (a .kind) (shown (a .heads .now) (a .seats .now) (a .listing .now)) (a .hits) (a .privileges) (a .s .now) (i
+    .so-far) (n .u32-at .result) (i .k) (i .place) (omega arith))
 
 pub ruled-by-spec : {M : Type 1} → statement M
 ruled-by-spec =

@@ -143,7 +143,8 @@ fits c =
     let two = head-at (one-at c) in
     let a = start two .args in
     let v = two .before .before .number48 .result in
-    let all : ℕ → Outcome = λ k. outcome (copied wordAt k (a .s .now) (v .next)) (one-at c .before .before .before .before .put-head .last .0)
+    let all : ℕ → Outcome = λ k. outcome (copied wordAt k (a .s .now) (v .next)) (one-at c .before .before .before .before .put-head .last
+    .0)
     (a .o + 8) in
     let e = step-done _ _ _ (w .result) _ (w .ensures .0 ∙ ap all (c .if4 .left)) (c .before .before .if3 .left) in
     room-for (start (head-at (one-at c)) .pre) (w .result .next) (word-inside _ _ _ _ _ _ _ e) (i .fourfold ok) (i .few ok)

@@ -8,6 +8,7 @@ use native.Mathlib.Omega.{arith}
 use borrow.Author.Needs.{needs}
 use borrow.Author.Tests.{not-false}
 use lib.ListN.{length}
+use Rattle.base.proofs.BoolLaws.{both}
 use Rattle.records.specs.Fields.{many, groupAt}
 use Rattle.records.specs.TokenRecord.{packedReader}
 use Rattle.records.specs.Unpacking.{outcome, copied, memberCopied, membersRoom, Roomy}
@@ -15,7 +16,7 @@ use Rattle.records.specs.Clean.{Such, PlainGroups}
 use Rattle.records.proofs.UnpackLaws.{copied-none, copied-refused, copied-done}
 use Rattle.records.proofs.StepLaws.{step-refused, step-done, room-more}
 use Rattle.records.proofs.RoomLaws.{room-left, room-same, refused-within}
-use Rattle.records.proofs.CleanLaws.{unclaimed, both-left, both-right, groups-none, groups-more}
+use Rattle.records.proofs.CleanLaws.{unclaimed, groups-none, groups-more}
 use Rattle.records.proofs.unpacking.unpack_members.Statement.{statement}
 use Rattle.records.proofs.unpacking.unpack_members.Tie as tie
 
@@ -46,8 +47,14 @@ returns : tie.Need-returns Inv-loop μ-loop
 returns c =
     let i = c .before .before .before .before .before .before .before .loop .inv in
     let w = c .before .before .before .before .unpack-member in
-    let d = step-refused _ _ _ (w .result) _ (w .ensures .0) (c .if1 .taken) in
-    (sym (i .4 ∙ copied-refused _ _ _ _ _ _ (c .before .before .before .before .before .before .loop-test .taken) d), (refused-within, λ a e. unclaimed e))
+    let d = step-refused _ _ _ (w .result) _ (w .ensures .0) (c .if1 .taken) in (
+      sym (i .4 ∙ copied-refused _ _ _ _ _ _ (c .before .before .before .before .before .before .loop-test .taken) d),
+      (
+        refused-within,
+        λ a
+            e. unclaimed e,
+      ),
+    )
 
 both-requires : tie.Need-both-requires Inv-loop μ-loop
 both-requires c κs = search needs
@@ -76,8 +83,9 @@ loop-again c =
       i .4 ∙ copied-done _ _ _ _ _ _ _ _ _ t d,
       λ a e x.
           let f = sym (c .both .ensures) ∙ e in
-          i .5 a (both-left (l .loop .clean) (w .result .clean) f)
-          (groups-more (l .before .before .before .args .attrs) _ _ _ _ _ _ _ _ a t d (w .ensures .1 .1 (both-right (l .loop .clean) (w .result .clean) f)) x),
+          i .5 a (both (l .loop .clean) (w .result .clean) f .0)
+          (groups-more (l .before .before .before .args .attrs) _ _ _ _ _ _ _ _ a t d (w .ensures .1 .1 (both (l .loop .clean) (w .result
+          .clean) f .1)) x),
     )
 
 same-length-2 : tie.Need-same-length-2 Inv-loop μ-loop

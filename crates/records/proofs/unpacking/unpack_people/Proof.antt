@@ -9,6 +9,7 @@ use native.Mathlib.Omega.{arith}
 use borrow.Author.Tests.{not-false}
 use lib.ListN.{length}
 use Rattle.base.specs.Bytes.{Read}
+use Rattle.base.proofs.BoolLaws.{both}
 use Rattle.records.specs.Token.{confined}
 use Rattle.records.specs.Fields.{peopleAt}
 use Rattle.records.specs.TokenRecord.{packedReader}
@@ -17,7 +18,7 @@ use Rattle.records.specs.Clean.{Such, Keeping}
 use Rattle.records.proofs.UnpackLaws.{counted-refused, counted-done, rest-none, rest-some}
 use Rattle.records.proofs.StepLaws.{after-refused, after-done, step-done}
 use Rattle.records.proofs.RoomLaws.{Counted, room-left, room-same, refused-within, counted-room, within-after, limited-past}
-use Rattle.records.proofs.CleanLaws.{unclaimed, both-left, both-right, people-keeping, unflagged}
+use Rattle.records.proofs.CleanLaws.{unclaimed, people-keeping, unflagged}
 use borrow.Author.Needs.{needs}
 use Rattle.records.proofs.unpacking.unpack_people.Statement.{statement}
 use Rattle.records.proofs.unpacking.unpack_people.Tie as tie
@@ -197,7 +198,7 @@ returns-4 c =
         record { few = λ x. omega (arith, w .few ok); fourfold = λ x. w .fourfold ok },
         λ z e.
             let f = sym (c .both .ensures) ∙ e in
-            kept three z (both-left (u .clean) (g .result .clean) f) (both-right (u .clean) (g .result .clean) f),
+            kept three z (both (u .clean) (g .result .clean) f .0) (both (u .clean) (g .result .clean) f .1),
       ),
     )
 

@@ -8,11 +8,12 @@ use lib.Dec.{eqb}
 use lib.ListN.{length}
 use lib.Seq.{sets}
 use Rattle.base.specs.Bytes.{little}
+use Rattle.base.proofs.BoolLaws.{both}
 use Rattle.records.proofs.RecordAnswer.{Heading, record-unversioned, record-version, record-flags, record-privileges, record-refused}
 use Rattle.records.proofs.RecordAnswer.{record-longer, record-done, record-keeping}
 use Rattle.records.proofs.StepLaws.{step-refused, step-done}
 use Rattle.records.proofs.RoomLaws.{room-left, room-for, room-same, number-past, limited-past}
-use Rattle.records.proofs.CleanLaws.{unclaimed, both-left, both-right}
+use Rattle.records.proofs.CleanLaws.{unclaimed}
 use native.Mathlib.Omega.{arith}
 use borrow.Author.Needs.{needs}
 use Rattle.records.proofs.unpacking.unpack_record.Statement.{statement}
@@ -66,7 +67,8 @@ abbrev start : tie.Else4 → tie.Start
 start c = c .before .before .before .before .before .before .before .before .before .before .before .before .before
 
 heading : (c : tie.Else4) →
-    Heading (start c .args .s .now) (c .before .before .before .before .before .before .before .before .before .before .number32 .result) (c .before .before .before .before .before .number-to .result)
+    Heading (start c .args .s .now) (c .before .before .before .before .before .before .before .before .before .before .number32 .result)
+    (c .before .before .before .before .before .number-to .result)
     (c .before .before .number64 .result)
 heading c = record {
   version = c .before .before .before .before .before .before .before .before .before .before .number32 .ensures .0;
@@ -107,7 +109,8 @@ made : (c : tie.After-put-little2) →
     (little 8 (four .before .before .number64 .result .value))
 made c = c .put-little2 .ensures ∙ rw (c .before .before .before .before .put-little .ensures)
 
-long : (c : tie.After-out2) → length (c .before .put-little2 .last .0) ≡ length (start (c .before .before .before .before .before .before .before) .args .out .now)
+long : (c : tie.After-out2) → length (c .before .put-little2 .last .0) ≡ length (start (c .before .before .before .before .before .before
+    .before) .args .out .now)
 long c = search needs
 
 -- ---- the people
@@ -134,8 +137,14 @@ returns-6 : tie.Need-returns-6
 returns-6 c =
     let w = c .before .before .before .before .before .before .unpack-people in
     let e = step-done _ _ _ (w .result) _ (w .ensures .0) (c .before .before .if5 .left) in
-    let two = c .before .before .before .before .before .before .before .before .before .before in
-    (record-longer (heading (two .before .before .before .before .before .before)) _ _ _ (made two) _ _ e (c .if6 .taken), (omega arith, λ e. unclaimed e))
+    let two = c .before .before .before .before .before .before .before .before .before .before in (
+      record-longer (heading (two .before .before .before .before .before .before)) _ _ _ (made two) _ _ e (c .if6 .taken),
+      (
+        omega arith,
+        λ
+            e. unclaimed e,
+      ),
+    )
 
 both-requires : tie.Need-both-requires
 both-requires c κs = search needs
@@ -157,9 +166,9 @@ returns-7 c =
             (omega (arith, w .ensures .1 .0 .few ok)),
         λ x.
             let g = sym (c .both .ensures) ∙ x in
-            let none = eqb-true (f .value) 0 (both-left (eqb (f .value) 0) (w .result .clean) g) in
+            let none = eqb-true (f .value) 0 (both (eqb (f .value) 0) (w .result .clean) g .0) in
             record-keeping (heading four) _ _ _ (made two) _ _ e (c .before .before .if6 .left)
-            (w .ensures .1 .1 none (both-right (eqb (f .value) 0) (w .result .clean) g) _),
+            (w .ensures .1 .1 none (both (eqb (f .value) 0) (w .result .clean) g .1) _),
       ),
     )
 

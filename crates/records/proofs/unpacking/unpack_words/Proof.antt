@@ -65,8 +65,14 @@ loop-again c =
     let n = c .before .before .before .before .before .before .word32 in
     let w = word-done _ _ _ _ (n .result) (n .ensures .0) (c .before .before .before .before .if1 .left) in
     let d = copied-done _ _ _ _ _ _ _ _ _ (c .before .before .before .before .before .before .before .loop-test .taken) w in
-    let past = number-past 32 _ _ (n .result) (n .ensures .0) (c .before .before .before .before .if1 .left) in
-    (omega arith, omega (arith, past), search needs, room-left (i .3) (omega (arith, past)) (omega arith), i .4 ∙ d ∙ rw (sym (c .before .before .put-little .ensures)))
+    let past = number-past 32 _ _ (n .result) (n .ensures .0) (c .before .before .before .before .if1 .left) in (
+      omega arith,
+      omega (arith, past),
+      search needs,
+      room-left (i .3) (omega (arith, past)) (omega arith),
+      i .4 ∙ d ∙ rw (sym (c .before
+          .before .put-little .ensures)),
+    )
 
 same-length-2 : tie.Need-same-length-2 Inv-loop μ-loop
 same-length-2 c = search needs

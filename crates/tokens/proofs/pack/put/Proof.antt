@@ -1,5 +1,6 @@
--- `put` meets its contract. A number below 128 is its own byte, and one of five groups is written by `put_five`. The loop's invariant: writing the number at `o` is writing the groups that
--- are left at `i` (Writes), where there is room. The measure is the number that is left. Assumes nothing.
+-- `put` meets its contract. A number below 128 is its own byte, and one of five groups is written by `put_five`. The loop's invariant:
+-- writing the number at `o` is writing the groups that are left at `i` (Writes), where there is room. The measure is the number that is
+-- left. Assumes nothing.
 use borrow.Author.Needs.{needs}
 use native.Mathlib.Omega.{arith}
 use Prim.Native.Nat.{_^_, _<_}
