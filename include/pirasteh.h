@@ -45,8 +45,8 @@
 
 /* The version of this header and its library, as text and as a number that can be compared:
  * major * 10000 + minor * 100 + patch. */
-#define PIRASTEH_VERSION        "0.4.3"
-#define PIRASTEH_VERSION_NUMBER 403
+#define PIRASTEH_VERSION        "0.5.0"
+#define PIRASTEH_VERSION_NUMBER 500
 
 /* PIRASTEH_CALL: the compiler warns about NULL, and about a result that is not looked at. */
 #if defined(__has_attribute)
@@ -94,9 +94,9 @@ enum {
     PIRASTEH_SELF_ID          = 5,  /* the self identity is neither empty nor exactly one SID */
     PIRASTEH_DESCRIPTOR_SHAPE = 6,  /* the descriptor is misshapen */
     PIRASTEH_NO_OWNER         = 7,  /* the descriptor has no owner */
-    PIRASTEH_DACL_TYPE        = 8,  /* the DACL has an entry that is neither allow nor deny */
+    PIRASTEH_DACL_TYPE        = 8,  /* the DACL: an entry's type or a condition's token is not read */
     PIRASTEH_POLICY_SHAPE     = 9,  /* the policy is misshapen */
-    PIRASTEH_POLICY_TYPE      = 10, /* a rule has an applies_to, or an entry neither allow nor deny */
+    PIRASTEH_POLICY_TYPE      = 10, /* a rule: an entry's type or a condition's token is not read */
     PIRASTEH_SHORT_BUFFER     = 11, /* converters only: the result is longer than the lent buffer */
     PIRASTEH_FILE_SHAPE       = 12  /* question files only: misshapen, or above 65,536 bytes */
 };

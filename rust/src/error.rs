@@ -34,11 +34,12 @@ pub enum Error {
     DescriptorShape,
     /// 7: the descriptor has no owner.
     NoOwner,
-    /// 8: the descriptor's DACL has an entry that is neither allow nor deny.
+    /// 8: the descriptor's DACL has an entry of a type other than 0, 1, 9 and 10, or a condition
+    /// with a token that is not read.
     DaclType,
     /// 9: the policy is misshapen.
     PolicyShape,
-    /// 10: a rule of the policy has an `applies_to`, or an entry that is neither allow nor deny.
+    /// 10: the same in a DACL of some rule of the policy, or in its `applies_to`.
     PolicyType,
     /// 11: the converted result is longer than the lent buffer. [`list`](crate::list) and
     /// [`pack`](crate::pack) only.
@@ -123,10 +124,14 @@ impl Error {
             Error::SelfId => "the self identity is neither empty nor exactly one SID",
             Error::DescriptorShape => "the security descriptor is misshapen",
             Error::NoOwner => "the security descriptor has no owner",
-            Error::DaclType => "the access list has an entry that is neither allow nor deny",
+            Error::DaclType => {
+                "the access list has an entry of a type, or a condition with a token, \
+                 that is not read"
+            }
             Error::PolicyShape => "the policy is misshapen",
             Error::PolicyType => {
-                "a rule of the policy has an applies_to, or an entry that is neither allow nor deny"
+                "a rule of the policy has an entry of a type, or a condition with a token, \
+                 that is not read"
             }
             Error::ShortBuffer => "the buffer is too short for the converted token",
             Error::FileShape => "the question file is misshapen or longer than 65,536 bytes",

@@ -18,7 +18,7 @@ use Rattle.passes.specs.Matching.{hitsOf}
 use Rattle.passes.specs.NormalEvaluation.{Dacl, privilegesGive, listGives, normalOf}
 use Rattle.passes.specs.Confinement.{everything, confinementOf}
 use Rattle.passes.specs.declared.matching.Hits.{Hits}
-use Rattle.policy.specs.Rules.{Lists, ruled, judgedBy, ruledFrom}
+use Rattle.policy.specs.Rules.{Lists, ruled, narrowedBy, judgedBy, ruledFrom}
 use Rattle.policy.specs.declared.rules.Ruled.{Ruled}
 use Rattle.access.specs.Granted.{foundOf}
 use Rattle.access.specs.Evaluating.{confinementIn, foundIn}
@@ -39,7 +39,7 @@ normal-low kind ms h p d = rw (privileges-low p)
 
 judged-low : (kind : ℕ) (ms : List Member) (h : Hits) (p : ℕ) (st : Ruled) (r : Lists) →
     judgedBy kind ms h (p % 2 ^ 32) st r ≡ judgedBy kind ms h p st r
-unfolding judgedBy
+unfolding judgedBy narrowedBy
 judged-low kind ms h p st r = simp (normal-low kind ms h p)
 
 pub ruled-low : (kind : ℕ) (ms : List Member) (h : Hits) (p : ℕ) (st : Ruled) (rs : List Lists) →

@@ -10,7 +10,7 @@ use lib.Dec.{ltb, eqb}
 use lib.ListN.{length}
 use Rattle.base.proofs.BoolLaws.{both}
 use Rattle.base.specs.Bytes.{part}
-use Rattle.lists.specs.Sid.{sidEnd}
+use Rattle.sids.specs.Sid.{sidEnd}
 use Rattle.records.specs.Crowd.{plain, width, memberAt, membersAt, crowdAt, userPlace}
 use Rattle.access.specs.Evaluating.{beside, few, Seatable}
 

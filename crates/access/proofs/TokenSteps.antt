@@ -14,7 +14,7 @@ use Rattle.base.specs.Bytes.{Read}
 use Rattle.base.specs.Bytes.Read.{none, some}
 use Rattle.base.proofs.PlaceLaws.{Stands}
 use Rattle.lists.proofs.ByLengthLaws.{dacl-by-length}
-use Rattle.lists.proofs.SidLaws.{sid-end-short}
+use Rattle.sids.proofs.SidLaws.{sid-end-short}
 use Rattle.lists.specs.Descriptor as descriptor
 use Rattle.lists.specs.declared.descriptor.Verdict.{Verdict}
 use Rattle.lists.specs.declared.descriptor.Verdict.the-variants.{Whole, Ownerless, ForeignEntry}

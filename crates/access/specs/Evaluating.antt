@@ -8,7 +8,7 @@ use lib.ListN.{length}
 use Rattle.base.specs.Bytes.{u32At}
 use Rattle.base.specs.Bits.{and}
 use Rattle.lists.specs.ByLength.{entriesByLength}
-use Rattle.lists.specs.Sid.{sidEnd}
+use Rattle.sids.specs.Sid.{sidEnd}
 use Rattle.records.specs.Crowd.{Member, crowdAt, userPlace}
 use Rattle.passes.specs.Matching.{hitsOf}
 use Rattle.passes.specs.NormalEvaluation.{Dacl, listGives, normalOf}

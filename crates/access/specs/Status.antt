@@ -6,7 +6,7 @@ use lib.ListN.{length}
 use lib.Dec.{eqb}
 use Rattle.base.specs.Bytes.{Read}
 use Rattle.base.specs.Bytes.Read.{none, some}
-use Rattle.lists.specs.Sid.{isSid}
+use Rattle.sids.specs.Sid.{isSid}
 use Rattle.lists.specs.Acl.{entriesOf}
 use Rattle.lists.specs.Descriptor as descriptor
 use Rattle.lists.specs.Descriptor.{partsOf, ownerOf, daclOf}

@@ -94,7 +94,7 @@ fn found_with(
 fn few_beside(listing: &[u8], at: usize, n: u32) -> bool
     ensures { λ r. ⌜ r ≡ ltb (beside (now (listing .entry)) at) n ⌝ }
 {
-    let e = lists::sid_end(listing, at);
+    let e = sids::sid_end(listing, at);
     base::u32_at(listing, e) < n
 }
 

@@ -21,7 +21,7 @@ fn self_fits(me: &[u8]) -> bool
     if me.len() == 0 {
         return true;
     }
-    lists::is_sid(me)
+    sids::is_sid(me)
 }
 
 // The page's number for a descriptor's verdict.

@@ -9,6 +9,8 @@ pub mod ValueLaws
 pub mod WordsLaws
 -- numbers of eight bytes at a place, and lists compared eight bytes at a time
 pub mod EightLaws
+-- bytes of a part, by their places in the whole
+pub mod PartLaws
 -- bytes that stand at a place
 pub mod PlaceLaws
 -- taking a reading apart

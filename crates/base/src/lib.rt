@@ -1,8 +1,10 @@
-// Bytes by place and numbers in sevens, read from lent bytes. Knows nothing of identities, lists
-// or tokens.
+// Bytes by place and numbers in sevens, read from lent bytes; tests put together. Knows nothing of
+// identities, lists or tokens.
+mod bools;
 mod bytes;
 mod sevens;
 
+pub use bools::either;
 pub use bytes::same;
 pub use bytes::u16_at;
 pub use bytes::u32_at;

@@ -10,6 +10,7 @@ use Rattle.access.specs.Status.{checked, refused}
 use Rattle.access.specs.QuestionFile.{fileAnswer}
 use Rattle.access.specs.declared.answer.Answer.{Answer}
 use Rattle.cards.specs.Cards.{TU, Card, cards, refusals, file-c1, file-long, given}
+use Rattle.cards.specs.ConditionalCards.{conditional}
 use Rattle.cards.proofs.Opened.{the-page}
 
 abbrev tokenTU : Token
@@ -36,6 +37,11 @@ cards-hold = refl
 pub refusals-hold : map checkedCard refusals ≡ map expected refusals
 unfolding the-page
 refusals-hold = refl
+
+-- request 103 worked out
+pub conditional-hold : map checkedCard conditional ≡ map expected conditional
+unfolding the-page
+conditional-hold = refl
 
 -- card c1 as a file of 82 bytes; the same with a byte after it is 12
 pub file-holds : fileAnswer file-c1 ≡ given 0x120089 true false

@@ -45,7 +45,7 @@ instances =
             owner = refl;
             present = refl;
             list = refl;
-            rules = one-more refl refl refl no-rules;
+            rules = one-more (record { applies = refl; effective = refl; stages = refl; staged = refl }) no-rules;
           };
       alike-rule =
           record {
@@ -57,7 +57,13 @@ instances =
             policy =
                 record {
                   before = rulesOf (wide .policy);
-                  gained = record { effective = record { kind = 0; flags = 0; mask = 1; sid = U } ∷ []; stages = false; staged = [] };
+                  gained =
+                      record {
+                        applies = [];
+                        effective = record { kind = 0; flags = 0; mask = 1; sid = U; condition = [] } ∷ [];
+                        stages = false;
+                        staged = [];
+                      };
                   after = [];
                   old = refl;
                   new = refl;

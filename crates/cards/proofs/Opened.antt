@@ -3,8 +3,13 @@
 use mathlib.Core.Bool.{Bool, true}
 use Rattle.base.specs.Bytes.{u16At, u32At, same, little, big, u48BeAt}
 use Rattle.base.specs.Sevens.{more, groups, within, placed, number}
-use Rattle.lists.specs.Sid.{sidEnd, isSid}
-use Rattle.lists.specs.Acl.{aclEnd, headEnd, holds, entryEnd, shaped, foreign, scanOf, aceAt, entriesAt, entriesOf}
+use Rattle.sids.specs.Sid.{sidEnd, isSid}
+use Rattle.conditions.specs.Condition.{zeros, enclosedEnd, literalEnd, literalsAt, literals, push, literal, composite, answered, paired}
+use Rattle.conditions.specs.Condition.{negated}
+use Rattle.conditions.specs.Condition.{stepAt, ended, runFrom, outcomeBy, shape}
+use Rattle.conditions.specs.Membership.{sidsAt, sidsOf, allOf, anyOf, reply, toldOf, admits}
+use Rattle.lists.specs.Acl.{aclEnd, headEnd, callback, named, holds, entryEnd, contentOf, shaped, foreign, scanOf, aceAt, entriesAt}
+use Rattle.lists.specs.Acl.{entriesOf}
 use Rattle.lists.specs.Descriptor as descriptor
 use Rattle.lists.specs.Descriptor.{heading, sidPiece, aclPiece, judged, partsOf}
 use Rattle.records.specs.Fields.{many, groupAt, confinementAt, peopleAt, fieldsAt, each, peopleBytes, confinementBytes, fieldsBytes}
@@ -18,8 +23,8 @@ use Rattle.passes.specs.OnePass.{taken, run}
 use Rattle.passes.specs.NormalEvaluation.{namesOwner, normalOf}
 use Rattle.passes.specs.Confinement.{confinementOf}
 use Rattle.policy.specs.Policy as policy
-use Rattle.policy.specs.Policy.{sectionAt, aclSection, maybeAcl, ruleOf, ruleAt, rulesShaped, rulesUnread, standingOf}
-use Rattle.policy.specs.Rules.{rulesAt, rulesOf, judgedBy, ruledFrom}
+use Rattle.policy.specs.Policy.{sectionAt, aclSection, maybeAcl, appliesSection, ruleOf, ruleAt, rulesShaped, rulesUnread, standingOf}
+use Rattle.policy.specs.Rules.{rulesAt, rulesOf, narrowedBy, judgedBy, ruledFrom}
 use Rattle.access.specs.Granted.{foundOf, answerOf}
 use Rattle.access.specs.Status.{selfFits, afterToken, checked}
 use Rattle.access.specs.QuestionFile.{blobAt, questionOf, fileAnswer}
@@ -31,12 +36,15 @@ use Rattle.cards.specs.Cards.{manyRules}
 unfoldable pub the-page : Bool
 unfolding
     u16At u32At same little big u48BeAt more groups within placed number
-    sidEnd isSid aclEnd headEnd holds entryEnd shaped foreign scanOf aceAt entriesAt entriesOf
+    sidEnd isSid zeros enclosedEnd literalEnd literalsAt literals push literal composite answered paired negated stepAt ended runFrom
+    outcomeBy shape sidsAt sidsOf allOf anyOf reply toldOf admits
+    aclEnd headEnd callback named holds entryEnd contentOf shaped foreign scanOf aceAt entriesAt entriesOf
     descriptor.numberOf heading sidPiece aclPiece judged partsOf
     many groupAt confinementAt peopleAt fieldsAt each peopleBytes confinementBytes fieldsBytes packedIdentity readRecord listingOf
     virtualGroup virtualIn lists exemptAlone virtualStands unrestricted keeps asListing fitted
     right mapped entryMask legal explicit asked among stands hitsOf matches taken run namesOwner normalOf confinementOf
-    policy.numberOf sectionAt aclSection maybeAcl ruleOf ruleAt rulesShaped rulesUnread standingOf rulesAt rulesOf judgedBy ruledFrom
+    policy.numberOf sectionAt aclSection maybeAcl appliesSection ruleOf ruleAt rulesShaped rulesUnread standingOf rulesAt rulesOf
+    narrowedBy judgedBy ruledFrom
     foundOf answerOf selfFits afterToken checked blobAt questionOf fileAnswer
     inGroups known struck ofObject manyRules
 the-page = true

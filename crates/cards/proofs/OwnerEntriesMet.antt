@@ -65,7 +65,8 @@ instances =
       counted =
           record {
             before = [];
-            entry = record { kind = 1; flags = 0x13; mask = 0; sid = 1 ∷ 1 ∷ 0 ∷ 0 ∷ 0 ∷ 0 ∷ 0 ∷ 3 ∷ 4 ∷ 0 ∷ 0 ∷ 0 ∷ [] };
+            entry =
+                record { kind = 1; flags = 0x13; mask = 0; sid = 1 ∷ 1 ∷ 0 ∷ 0 ∷ 0 ∷ 0 ∷ 0 ∷ 3 ∷ 4 ∷ 0 ∷ 0 ∷ 0 ∷ []; condition = [] };
             after = [];
             split = refl;
             names = refl;
@@ -84,7 +85,7 @@ none-counts d descriptors o =
     let n = named-when (daclIn (folder 0x0B .descriptor) .entries) .1 o in
     let z : _≡_ {A = ℕ} 0 1 = cc in
     absurd (omega arith)
-none-counts d (rules before r after e) o = absurd (no-rule before r after e)
+none-counts d (rules before r after e b) o = absurd (no-rule before r after e)
 
 pub keeps : Within (and (asked 1 0x60000) (ownersRights (folder 0x0B))) (checked (folder 0x0B) .granted .0)
 keeps = owner-keeps (folder 0x0B) (ap (λ (a : Answer). a .status) (instances .folder-kept)) (instances .owner-asks) none-counts

@@ -269,12 +269,12 @@ refusals =
     (asks 1 0x80000000 TU [] D policy-3 ⇒ refused 9) ∷
     -- 9 four bytes
     (asks 1 0x80000000 TU [] D policy-4 ⇒ refused 9) ∷
+    -- 9 an applies_to that has a prefix and no token
+    (asks 1 0x80000000 TU [] D policy-7 ⇒ refused 9) ∷
     -- 9 before 10: a foreign entry type and a byte too many
     (asks 1 0x80000000 TU [] D policy-5 ⇒ refused 9) ∷
     -- 10 a foreign entry type in a rule
     (asks 1 0x80000000 TU [] D policy-6 ⇒ refused 10) ∷
-    -- 10 an applies_to
-    (asks 1 0x80000000 TU [] D policy-7 ⇒ refused 10) ∷
     []
 
 -- ---- question files: card c1, 82 bytes; and number 12

@@ -1,2 +1,4 @@
 -- The bench cards as bytes.
 pub mod Cards
+-- request 103 worked out: conditions in entries and in applies_to
+pub mod ConditionalCards

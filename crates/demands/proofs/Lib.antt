@@ -15,5 +15,7 @@ pub mod LongEntriesLaws
 pub mod OwnerEntriesLaws
 pub mod OwnersRightsLaws
 pub mod ObjectListsLaws
+-- request 103
+pub mod SomeCallersLaws
 -- what a reader of the page expects
 pub mod ReaderLaws

@@ -13,7 +13,8 @@ use Rattle.demands.proofs.StrangersLaws.{answer-strangers}
 
 alike-self : (t : Token) (rs : List Lists) → AlikeRules t rs rs
 alike-self t [] = no-rules
-alike-self t (r ∷ rs) = one-more refl refl refl (alike-self t rs)
+alike-self t (r ∷ rs) =
+    one-more (record { applies = refl; effective = refl; stages = refl; staged = refl }) (alike-self t rs)
 
 as-strangers : (p q : Question) → ReadTheSame p q → SameButStrangers p q
 as-strangers p q s =

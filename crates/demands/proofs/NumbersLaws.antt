@@ -9,7 +9,7 @@ use lib.ListN.{length}
 use lib.Dec.{ltb, eqb}
 use borrow.Author.Tests.{eqb-true}
 use Rattle.base.specs.Bytes.{byteAt, u32At}
-use Rattle.lists.specs.Sid.{sidEnd}
+use Rattle.sids.specs.Sid.{sidEnd}
 use Rattle.lists.specs.Descriptor as descriptor
 use Rattle.lists.specs.Descriptor.{
   heading,

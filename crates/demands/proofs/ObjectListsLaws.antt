@@ -6,7 +6,7 @@ use mathlib.Core.List.{List, [], _∷_, map}
 use mathlib.Core.Bool.{Bool, true, false, cond, _&&_}
 use Rattle.base.specs.Bits.{has}
 use Rattle.base.specs.Bytes.{same}
-use Rattle.lists.specs.Sid.{ownerRights}
+use Rattle.sids.specs.Sid.{ownerRights}
 use Rattle.lists.specs.Acl.{Entry}
 use Rattle.lists.specs.Descriptor.{ownerOf}
 use Rattle.records.specs.Token.{Token}
@@ -19,7 +19,7 @@ use Rattle.passes.specs.NormalEvaluation.{Dacl, listed, counts, namesOwner, lis
 use Rattle.passes.specs.Confinement.{confinementOf}
 use Rattle.passes.specs.declared.matching.Hits.{Hits}
 use Rattle.masks.specs.declared.tally.Tally.{Tally}
-use Rattle.policy.specs.Rules.{Lists, rulesOf, judgedBy, ruledFrom}
+use Rattle.policy.specs.Rules.{Lists, rulesOf, narrowedBy, judgedBy, ruledFrom}
 use Rattle.policy.specs.declared.rules.Ruled.{Ruled}
 use Rattle.access.specs.Granted.{foundOf, answerOf}
 use Rattle.access.specs.Status.{Question, daclIn, checked}
@@ -61,7 +61,7 @@ module _ (kind : ℕ) (ms : List Member) (h : Hits) where
     normal-object d = rw (gives-object d, names-object (d .entries))
 
     judged-object : (st : Ruled) (r : Lists) → judgedBy kind ms h p st r ≡ judgedBy kind ms h p st (objectLists r)
-    unfolding judgedBy
+    unfolding judgedBy narrowedBy
     judged-object st r = rw (normal-object (listed (r .effective)), normal-object (listed (r .staged)))
 
     ruled-object : (rs : List Lists) (st : Ruled) → ruledFrom kind ms h p st rs ≡ ruledFrom kind ms h p st (map objectLists rs)

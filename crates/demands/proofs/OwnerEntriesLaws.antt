@@ -9,7 +9,7 @@ use native.Mathlib.Omega.{arith}
 use Rattle.base.specs.Bits.{has}
 use Rattle.base.specs.Bytes.{same}
 use Rattle.base.proofs.BytesLaws.{same-eq, eq-same}
-use Rattle.lists.specs.Sid.{ownerRights}
+use Rattle.sids.specs.Sid.{ownerRights}
 use Rattle.lists.specs.Acl.{Entry}
 use Rattle.passes.specs.NormalEvaluation.{counts, namesOwner}
 use Rattle.demands.specs.OwnerEntries.{OwnerEntry}

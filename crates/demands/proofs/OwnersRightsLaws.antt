@@ -28,7 +28,7 @@ use Rattle.passes.specs.Matching.{stands, hitsOf}
 use Rattle.passes.specs.NormalEvaluation.{Dacl, listed, namesOwner, listGives, ownerGives, privilegesGive, normalOf}
 use Rattle.passes.specs.Confinement.{everything, confinementOf}
 use Rattle.passes.specs.declared.matching.Hits.{Hits}
-use Rattle.policy.specs.Rules.{Lists, rulesOf, resultOf, ruled, judgedBy, ruledFrom, ruledBy}
+use Rattle.policy.specs.Rules.{Lists, rulesOf, resultOf, ruled, appliesTo, narrowedBy, judgedBy, ruledFrom, ruledBy}
 use Rattle.policy.specs.declared.rules.Ruled.{Ruled}
 use Rattle.access.specs.Granted.{foundOf, answerOf}
 use Rattle.access.specs.Status.{Question, daclIn, checked}
@@ -76,28 +76,52 @@ within-both : (a b c : ℕ) → Within a b → Within a c → Within a (and b c)
 within-both a b c f g = within-trans a (and a a) (and b c) (rw (B.and-self a) (within-refl a)) (and-mono a b a c f g)
 
 module _ (kind : ℕ) (ms : List Member) (h : Hits) (p : ℕ) where
+  -- one rule leaves no more than its result if it applies, and nothing else
+  judged-leaves : (k : ℕ) (st : Ruled) (r : Lists) → Within k (st .left .0) →
+      (appliesTo ms h r ≡ true → Within k (resultOf kind ms h p (r .effective))) → Within k (judgedBy kind ms h p st r .left .0)
+  unfolding judgedBy narrowedBy
+  judged-leaves k st r w f = go (appliesTo ms h r) f
+    where
+      go : (b : Bool) → (b ≡ true → Within k (resultOf kind ms h p (r .effective))) →
+          Within k (cond b (narrowedBy kind ms h p st r) st .left .0)
+      go true f = within-both k _ _ w (f refl)
+      go false f = w
+
+  judged-narrows : (st : Ruled) (r : Lists) → Within (judgedBy kind ms h p st r .left .0) (st .left .0)
+  unfolding judgedBy narrowedBy
+  judged-narrows st r = go (appliesTo ms h r)
+    where
+      go : (b : Bool) → Within (cond b (narrowedBy kind ms h p st r) st .left .0) (st .left .0)
+      go true = and-within-l (st .left .0) (resultOf kind ms h p (r .effective))
+      go false = within-refl _
+
+  judged-cuts : (st : Ruled) (r : Lists) → appliesTo ms h r ≡ true →
+      Within (judgedBy kind ms h p st r .left .0) (resultOf kind ms h p (r .effective))
+  unfolding judgedBy narrowedBy
+  judged-cuts st r a = rw a (and-within-r (st .left .0) (resultOf kind ms h p (r .effective)))
+
   rules-leave : (k : ℕ) (rs : List Lists) (st : Ruled) → Within k (st .left .0) →
-      ((before : List Lists) (r : Lists) (after : List Lists) → rs ≡ before ++ r ∷ after → Within k (resultOf kind ms h p (r .effective))) →
+      ((before : List Lists) (r : Lists) (after : List Lists) → rs ≡ before ++ r ∷ after → appliesTo ms h r ≡ true →
+      Within k (resultOf kind ms h p (r .effective))) →
       Within k (ruledFrom kind ms h p st rs .left .0)
-  unfolding ruledFrom judgedBy
+  unfolding ruledFrom
   rules-leave k [] st w f = w
   rules-leave k (r ∷ rs) st w f =
-      rules-leave k rs (judgedBy kind ms h p st r) (within-both k _ _ w (f [] r rs refl))
+      rules-leave k rs (judgedBy kind ms h p st r) (judged-leaves k st r w (f [] r rs refl))
       (λ before q after e. f (r ∷ before) q after (ap (λ (l : List Lists). r ∷ l) e))
 
   rules-narrow : (rs : List Lists) (st : Ruled) → Within (ruledFrom kind ms h p st rs .left .0) (st .left .0)
-  unfolding ruledFrom judgedBy
+  unfolding ruledFrom
   rules-narrow [] st = within-refl _
-  rules-narrow (r ∷ rs) st = within-trans _ (judgedBy kind ms h p st r .left .0) _ (rules-narrow rs (judgedBy kind ms h p st r))
-      (and-within-l (st .left .0) (resultOf kind ms h p (r .effective)))
+  rules-narrow (r ∷ rs) st =
+      within-trans _ (judgedBy kind ms h p st r .left .0) _ (rules-narrow rs (judgedBy kind ms h p st r)) (judged-narrows st r)
 
-  rules-cut : (before : List Lists) (r : Lists) (after : List Lists) (st : Ruled) →
+  rules-cut : (before : List Lists) (r : Lists) (after : List Lists) (st : Ruled) → appliesTo ms h r ≡ true →
       Within (ruledFrom kind ms h p st (before ++ r ∷ after) .left .0) (resultOf kind ms h p (r .effective))
-  unfolding ruledFrom judgedBy
-  rules-cut [] r after st =
-      within-trans _ (judgedBy kind ms h p st r .left .0) _ (rules-narrow after (judgedBy kind ms h p st r))
-      (and-within-r (st .left .0) (resultOf kind ms h p (r .effective)))
-  rules-cut (x ∷ before) r after st = rules-cut before r after (judgedBy kind ms h p st x)
+  unfolding ruledFrom
+  rules-cut [] r after st a =
+      within-trans _ (judgedBy kind ms h p st r .left .0) _ (rules-narrow after (judgedBy kind ms h p st r)) (judged-cuts st r a)
+  rules-cut (x ∷ before) r after st a = rules-cut before r after (judgedBy kind ms h p st x) a
 
 -- ---- by all that the granted mask goes by
 
@@ -106,7 +130,8 @@ module _ (kind : ℕ) (t : Token) (owner self : List ℕ) (d : Dacl) (rs : List 
   by e = normalOf kind (crowdOf t) (hitsOf (crowdOf t) owner self) (t .privileges) e
 
   found-keeps : stands true (crowdOf t) owner ≡ true → (OwnerEntry (d .entries) → ⊥) →
-      ((before : List Lists) (r : Lists) (after : List Lists) → rs ≡ before ++ r ∷ after → OwnerEntry (r .effective) → ⊥) →
+      ((before : List Lists) (r : Lists) (after : List Lists) → rs ≡ before ++ r ∷ after →
+      appliesTo (crowdOf t) (hitsOf (crowdOf t) owner self) r ≡ true → OwnerEntry (r .effective) → ⊥) →
       Within (and 0x60000 (confinementOf kind t owner self d)) (foundOf kind t owner self d rs .ruled .0)
   unfolding foundOf hitsOf
   found-keeps o n f =
@@ -116,7 +141,7 @@ module _ (kind : ℕ) (t : Token) (owner self : List ℕ) (d : Dacl) (rs : List 
       (and-mono 0x60000 (by d) c c (list-keeps kind (crowdOf t) h (t .privileges) d o n) (within-refl c))
       (within-trans (and 0x60000 c) 0x60000 _ (and-within-l 0x60000 c)
       (rules-leave kind (crowdOf t) h (t .privileges) 0x60000 rs (ruled everything 0) (and-within 0x60000 everything refl)
-      (λ before r after e. list-keeps kind (crowdOf t) h (t .privileges) (listed (r .effective)) o (f before r after e))))
+      (λ before r after e a. list-keeps kind (crowdOf t) h (t .privileges) (listed (r .effective)) o (f before r after e a))))
 
   found-by-list : Within (foundOf kind t owner self d rs .ruled .0) (by d)
   unfolding foundOf
@@ -125,11 +150,12 @@ module _ (kind : ℕ) (t : Token) (owner self : List ℕ) (d : Dacl) (rs : List 
       within-trans _ (and (by d) c) _ (and-within-l (and (by d) c) _) (and-within-l (by d) c)
 
   found-by-rule : (before : List Lists) (r : Lists) (after : List Lists) → rs ≡ before ++ r ∷ after →
+      appliesTo (crowdOf t) (hitsOf (crowdOf t) owner self) r ≡ true →
       Within (foundOf kind t owner self d rs .ruled .0) (by (listed (r .effective)))
   unfolding foundOf
-  found-by-rule before r after e =
+  found-by-rule before r after e a =
       let h = hitsOf (crowdOf t) owner self in
-      let one = rules-cut kind (crowdOf t) h (t .privileges) before r after (ruled everything 0) in
+      let one = rules-cut kind (crowdOf t) h (t .privileges) before r after (ruled everything 0) a in
       let left = ruledBy kind (crowdOf t) h (t .privileges) (before ++ r ∷ after) .left .0 in
       rw e (within-trans _ left _ (and-within-r (and (by d) (confinementOf kind t owner self d)) left) one)
 
@@ -148,7 +174,7 @@ owner-keeps q a o none =
     (and-mono (asked (q .kind) (q .mask)) (asked (q .kind) (q .mask)) (ownersRights q) _ (within-refl _)
     (found-keeps (q .kind) (tokenIn q) (ownerOf (q .descriptor)) (q .self) (daclIn (q .descriptor)) (rulesOf (q .policy)) o
     (none (daclIn (q .descriptor)) descriptors)
-    (λ before r after e. none (listed (r .effective)) (rules before r after e))))
+    (λ before r after e b. none (listed (r .effective)) (rules before r after e b))))
 
 -- the granted mask by a list that it goes by
 granted-by : (q : Question) (d : Dacl) → Accepted q → GoesBy q d →
@@ -158,11 +184,11 @@ granted-by q d a descriptors =
     rw (granted-found q a)
     (within-trans _ _ _ (and-within-r (asked (q .kind) (q .mask)) _)
     (found-by-list (q .kind) (tokenIn q) (ownerOf (q .descriptor)) (q .self) (daclIn (q .descriptor)) (rulesOf (q .policy))))
-granted-by q d a (rules before r after e) =
+granted-by q d a (rules before r after e b) =
     rw (granted-found q a)
     (within-trans _ _ _ (and-within-r (asked (q .kind) (q .mask)) _)
     (found-by-rule (q .kind) (tokenIn q) (ownerOf (q .descriptor)) (q .self) (daclIn (q .descriptor)) (rulesOf (q .policy)) before r after
-    e))
+    e b))
 
 pub owner-loses : (q : Question) (d : Dacl) → Accepted q → GoesBy q d → OwnerEntry (d .entries) →
     Within (and (checked q .granted .0) 0x60000) (itsList q d)

@@ -15,7 +15,7 @@ use Rattle.base.proofs.BitsLaws.{within-refl, within-trans, and-within-l, and-w
 use Rattle.lists.specs.Descriptor.{ownerOf}
 use Rattle.records.specs.Token.{Token}
 use Rattle.records.specs.Crowd.{Member, crowdOf}
-use Rattle.lists.specs.Sid.{virtual}
+use Rattle.sids.specs.Sid.{virtual}
 use Rattle.masks.specs.KindsAndMasks.{allBits, asked}
 use Rattle.passes.specs.Matching.{stands, hitOf, hitsOf}
 use Rattle.passes.specs.OnePass.{run, passed}

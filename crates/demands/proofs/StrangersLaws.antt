@@ -8,7 +8,7 @@ use mathlib.Core.List.{List, [], _∷_, map}
 use mathlib.Core.Bool.{Bool, true, false, cond, _&&_, _||_}
 use native.Mathlib.Omega.{arith}
 use Rattle.base.specs.Bytes.{same}
-use Rattle.lists.specs.Sid.{ownerRights, principalSelf}
+use Rattle.sids.specs.Sid.{ownerRights, principalSelf}
 use Rattle.lists.specs.Acl.{Entry}
 use Rattle.lists.specs.Descriptor.{ownerOf}
 use Rattle.records.specs.Token.{Group, Token}
@@ -20,12 +20,12 @@ use Rattle.passes.specs.NormalEvaluation.{Dacl, listed, counts, namesOwner, lis
 use Rattle.passes.specs.Confinement.{confinementOf}
 use Rattle.passes.specs.declared.matching.Hits.{Hits}
 use Rattle.masks.specs.declared.tally.Tally.{Tally}
-use Rattle.policy.specs.Rules.{Lists, rulesOf, ruledFrom, judgedBy}
+use Rattle.policy.specs.Rules.{Lists, rulesOf, ruledFrom, narrowedBy, judgedBy}
 use Rattle.policy.specs.declared.rules.Ruled.{Ruled}
 use Rattle.access.specs.Granted.{foundOf, answerOf}
 use Rattle.access.specs.Status.{Question, daclIn, checked}
 use Rattle.demands.specs.Accepted.{Accepted, tokenIn, byRules}
-use Rattle.demands.specs.Strangers.{inGroups, known, struck, AlikeRules, SameButStrangers}
+use Rattle.demands.specs.Strangers.{inGroups, known, struck, AlikeRule, AlikeRules, SameButStrangers}
 use Rattle.demands.specs.Strangers.AlikeRules.{no-rules, one-more}
 use Rattle.demands.proofs.AcceptedLaws.{accepted-is}
 
@@ -145,19 +145,18 @@ module _ (kind : ℕ) (t : Token) (h : Hits) (p : ℕ) where
   unfolding normalOf
   normal-alike d e x y = rw (gives-alike kind t (crowdOf t) (deaf-crowd t) h d e x y, names-alike t (d .entries) (e .entries) y)
 
-  judged-alike : (st : Ruled) (r q : Lists) → struck t (r .effective) ≡ struck t (q .effective) → r .stages ≡ q .stages →
-      struck t (r .staged) ≡ struck t (q .staged) → judgedBy kind (crowdOf t) h p st r ≡ judgedBy kind (crowdOf t) h p st q
-  unfolding judgedBy
-  judged-alike st r q x y z =
-      let effective = normal-alike (listed (r .effective)) (listed (q .effective)) refl x in
-      let staged = normal-alike (listed (r .staged)) (listed (q .staged)) refl z in
-      rw (effective, staged, y)
+  judged-alike : (st : Ruled) (r q : Lists) → AlikeRule t r q → judgedBy kind (crowdOf t) h p st r ≡ judgedBy kind (crowdOf t) h p st q
+  unfolding judgedBy narrowedBy
+  judged-alike st r q a =
+      let effective = normal-alike (listed (r .effective)) (listed (q .effective)) refl (a .effective) in
+      let staged = normal-alike (listed (r .staged)) (listed (q .staged)) refl (a .staged) in
+      rw (effective, staged, a .stages, a .applies)
 
   ruled-alike : {rs qs : List Lists} → AlikeRules t rs qs → (st : Ruled) →
       ruledFrom kind (crowdOf t) h p st rs ≡ ruledFrom kind (crowdOf t) h p st qs
   unfolding ruledFrom
   ruled-alike no-rules st = refl
-  ruled-alike (one-more {r = r} {q = q} x y z rest) st = rw (judged-alike st r q x y z) (ruled-alike rest _)
+  ruled-alike (one-more {r = r} {q = q} a rest) st = rw (judged-alike st r q a) (ruled-alike rest _)
 
 confinement-alike : (kind : ℕ) (t : Token) (owner self : List ℕ) (d e : Dacl) → d .present ≡ e .present →
     struck t (d .entries) ≡ struck t (e .entries) → confinementOf kind t owner self d ≡ confinementOf kind t owner self e

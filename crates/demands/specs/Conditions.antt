@@ -53,7 +53,7 @@ descriptorMisshapen d = not (heading d) || bad (ownerPiece d) || bad (groupPiece
 unfoldable pub ownerless : List ℕ → Bool
 ownerless d = eqb (u32At d 4) 0
 
--- 8: "descriptor's DACL holds an entry type other than 0 or 1"
+-- 8: "descriptor's DACL holds an entry type other than 0 or 1", other than 9 and 10 too since request 103, or an other token in a condition
 unfoldable pub foreignDacl : List ℕ → Bool
 foreignDacl d = alien (daclPiece d)
 
@@ -67,7 +67,8 @@ policyMisshapen p =
     || ltb 256 (u32At p 1)
     || not (rulesShaped p (u32At p 1) 5))
 
--- 10: "policy has an applies_to, or a rule's effective or staged DACL an entry type other than 0 or 1"
+-- 10: "a rule's effective or staged DACL an entry type other than 0 or 1", other than 9 and 10 too since request 103, or an other token in
+-- a condition or in an applies_to; "policy has an applies_to" is withdrawn
 unfoldable pub policyUnread : List ℕ → Bool
 policyUnread p = rulesUnread p (u32At p 1) 5
 

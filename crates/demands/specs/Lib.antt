@@ -11,3 +11,5 @@ pub mod Strangers
 pub mod LongEntries
 -- request 102's words: owner entries that count, and lists without their inherit-only entries
 pub mod OwnerEntries
+-- request 103's words: rules that apply to the asker, and conditions of entries
+pub mod SomeCallers

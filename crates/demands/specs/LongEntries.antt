@@ -6,7 +6,8 @@ use Rattle.policy.specs.Rules.{rulesOf}
 use Rattle.access.specs.Status.{Question, daclIn}
 
 -- two questions alike in token, kind, mask, self identity, owner and presence of the list, whose lists read the same: the descriptor's, and
--- each rule's effective and staged one (`rulesOf` is these lists and whether one is staged, rule for rule)
+-- each rule's effective and staged one, with equal applies_to sections (`rulesOf` is all of these, rule for rule, and whether one is
+-- staged)
 pub record ReadTheSame (p q : Question) : Type 0 where
   pub kind : p .kind ≡ q .kind
   pub mask : p .mask ≡ q .mask

@@ -4,7 +4,7 @@ use mathlib.Core.Path.{_≡_}
 use mathlib.Core.List.{List, [], _∷_, _++_, map}
 use mathlib.Core.Bool.{true, false, cond}
 use Rattle.base.specs.Bits.{and, has}
-use Rattle.lists.specs.Sid.{ownerRights}
+use Rattle.sids.specs.Sid.{ownerRights}
 use Rattle.lists.specs.Acl.{Entry}
 use Rattle.lists.specs.Descriptor.{ownerOf}
 use Rattle.records.specs.Crowd.{crowdOf}
@@ -16,10 +16,11 @@ use Rattle.access.specs.Granted.{foundOf, answerOf}
 use Rattle.access.specs.Status.{Question, daclIn}
 use Rattle.access.specs.declared.answer.Answer.{Answer}
 use Rattle.demands.specs.Accepted.{tokenIn}
+use Rattle.demands.specs.SomeCallers.{applies}
 
 -- ---- an entry that counts
 
--- one of a list's entries names S-1-3-4 and has no flag 0x08, whatever its type, its mask and its other flags
+-- one of a list's entries names S-1-3-4 and has no flag 0x08, whatever its type, its mask, its condition and its other flags
 pub record OwnerEntry (es : List Entry) : Type 0 where
   pub before : List Entry
   pub entry : Entry
@@ -28,11 +29,13 @@ pub record OwnerEntry (es : List Entry) : Type 0 where
   pub names : entry .sid ≡ ownerRights
   pub counts : has (entry .flags) 0x08 ≡ false
 
--- of the lists "in the descriptor and in rule lists" those that the granted mask goes by: the descriptor's, and each rule's effective one
+-- of the lists "in the descriptor and in rule lists" those that the granted mask goes by: the descriptor's, and the effective one of each
+-- rule that applies (request 103)
 pub data GoesBy (q : Question) : Dacl → Type 0 where
   descriptors : GoesBy q (daclIn (q .descriptor))
   rules :
-      (before : List Lists) (r : Lists) (after : List Lists) → rulesOf (q .policy) ≡ before ++ r ∷ after → GoesBy q (listed (r .effective))
+      (before : List Lists) (r : Lists) (after : List Lists) → rulesOf (q .policy) ≡ before ++ r ∷ after → applies q r ≡ true →
+      GoesBy q (listed (r .effective))
 
 -- ---- the owner's two rights
 
@@ -59,7 +62,8 @@ abbrev pub objectList : Dacl → Dacl
 objectList d = record { present = d .present; entries = ofObject (d .entries) }
 
 abbrev pub objectLists : Lists → Lists
-objectLists r = record { effective = ofObject (r .effective); stages = r .stages; staged = ofObject (r .staged) }
+objectLists r =
+    record { applies = r .applies; effective = ofObject (r .effective); stages = r .stages; staged = ofObject (r .staged) }
 
 -- the answer of the rules with every list so: the descriptor's, each rule's effective and staged one
 abbrev pub byObject : Question → Answer

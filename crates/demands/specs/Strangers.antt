@@ -9,7 +9,7 @@ use Rattle.lists.specs.Acl.{Entry}
 use Rattle.lists.specs.Descriptor.{ownerOf}
 use Rattle.records.specs.Token.{Group, Token}
 use Rattle.records.specs.TokenRules.{lists}
-use Rattle.lists.specs.Sid.{virtual}
+use Rattle.sids.specs.Sid.{virtual}
 use Rattle.policy.specs.Rules.{Lists, rulesOf}
 use Rattle.access.specs.Status.{Question, daclIn}
 use Rattle.demands.specs.Accepted.{tokenIn}
@@ -27,21 +27,23 @@ known t w =
     || lists w (t .confinement .capabilities)
     || virtual w
 
--- a list with the strangers' entries struck out
+-- a list with the strangers' entries struck out. "An entry naming a stranger remains a stranger's with any condition" (request 103)
 unfoldable pub struck : Token → List Entry → List Entry
 struck t [] = []
 struck t (e ∷ es) = let r = struck t es in cond (known t (e .sid)) (e ∷ r) r
 
--- two lists of rules, as many, with staged lists in the same ones, whose lists read the same once strangers are struck out
+-- two rules, both with a staged list or neither, whose lists read the same once strangers are struck out; "demand 3 also needs equal
+-- applies_to sections" (request 103)
+pub record AlikeRule (t : Token) (r q : Lists) : Type 0 where
+  pub applies : r .applies ≡ q .applies
+  pub effective : struck t (r .effective) ≡ struck t (q .effective)
+  pub stages : r .stages ≡ q .stages
+  pub staged : struck t (r .staged) ≡ struck t (q .staged)
+
+-- two lists of such rules, as many
 pub data AlikeRules (t : Token) : List Lists → List Lists → Type 0 where
   no-rules : AlikeRules t [] []
-  one-more :
-      {r q : Lists} {rs qs : List Lists} →
-      struck t (r .effective) ≡ struck t (q .effective) →
-      r .stages ≡ q .stages →
-      struck t (r .staged) ≡ struck t (q .staged) →
-      AlikeRules t rs qs →
-      AlikeRules t (r ∷ rs) (q ∷ qs)
+  one-more : {r q : Lists} {rs qs : List Lists} → AlikeRule t r q → AlikeRules t rs qs → AlikeRules t (r ∷ rs) (q ∷ qs)
 
 -- "two accepted checks alike in token, object kind, mask, self identity and owner; alike in whether the access list is present; with as many policy
 -- rules, and staged lists in the same ones", every list reading the same once strangers are struck out

@@ -1,5 +1,5 @@
 -- Laws of entries found by their lengths (specs: ByLength). In order: the entry by each test (by-length-short, -cut, -past, -made); a well
--- shaped allow or deny entry is found as it is (by-length-is); so are all entries of a list that was found plain (entries-by-length), of an
+-- shaped entry with a SID is found as it is (by-length-is); so are all entries of a list that was found plain (entries-by-length), of an
 -- empty one (entries-by-none), and so of an accepted descriptor's (dacl-by-length).
 -- Assumes nothing.
 use Prim.Native.Nat.{ℕ, zero, suc, _+_, _*_, _<_, _≤_}
@@ -11,13 +11,13 @@ use lib.ListN.{length}
 use borrow.Author.Tests.{lt-ltb, le-ltb, ne-eqb}
 use Rattle.base.specs.Bytes.{byteAt, u16At, u32At}
 use Rattle.base.proofs.WordsLaws.{u16-at-out}
-use Rattle.lists.specs.Acl.{headEnd, entryEnd, scanOf, Entry, noAce, aceAt, entryOf, entriesAt, entriesOf}
+use Rattle.lists.specs.Acl.{headEnd, named, entryEnd, scanOf, Entry, noAce, aceAt, entryOf, entriesAt, entriesOf}
 use Rattle.lists.specs.ByLength.{aceByLength, entriesByLengthAt, entriesByLength}
 use Rattle.lists.specs.Descriptor.{partsOf, daclOf}
 use Rattle.lists.specs.declared.acl.Ace.{Ace}
-use Rattle.lists.specs.declared.acl.Scan.the-variants.{Plain}
+use Rattle.conditions.specs.declared.scan.Scan.the-variants.{Plain}
 use Rattle.lists.specs.declared.descriptor.Verdict.the-variants.{Whole}
-use Rattle.lists.proofs.SidLaws.{SidAt, sid-at}
+use Rattle.sids.proofs.SidLaws.{SidAt, sid-at}
 use Rattle.lists.proofs.AclSteps.{HeadAt, head-at}
 use Rattle.lists.proofs.EntrySteps.{entry-end-is, entry-end-bounds, entry-end-sid, entry-end-fits, ace-at-some}
 use Rattle.lists.proofs.AclLaws.{Plainly, plain-of-scan, plain-more, ace-found}
@@ -58,7 +58,7 @@ module _ (l : List ℕ) (at : ℕ) where
 
 -- ---- a well shaped entry is found as it is
 
-pub by-length-is : (l : List ℕ) (at : ℕ) → byteAt l at < 2 → (entryEnd true l at ≡ 0 → ⊥) → aceByLength l at ≡ aceAt l at
+pub by-length-is : (l : List ℕ) (at : ℕ) → named (byteAt l at) ≡ true → (entryEnd true l at ≡ 0 → ⊥) → aceByLength l at ≡ aceAt l at
 by-length-is l at n h =
     let e : entryEnd true l at ≡ headEnd l at = entry-end-is true l at h in
     let g : HeadAt l at = head-at l at (λ q. h (e ∙ q)) in
@@ -78,9 +78,9 @@ unfolding entriesByLengthAt entriesAt
 by-length-all l zero at p = refl
 by-length-all l (suc n) at p =
     let m = plain-more l n at p in
-    let f = ace-found l at (m .0) in
-    rw (by-length-is l at (f .0) (f .1), ne-eqb (aceAt l at .next) 0 (m .0))
-    (ap (λ (r : List Entry). entryOf l (aceAt l at) ∷ r) (by-length-all l n (aceAt l at .next) (m .1)))
+    let f = ace-found l at (m .some) in
+    rw (by-length-is l at (f .0) (f .1), ne-eqb (aceAt l at .next) 0 (m .some))
+    (ap (λ (r : List Entry). entryOf l (aceAt l at) ∷ r) (by-length-all l n (aceAt l at .next) (m .rest)))
 
 -- the entries of a list that was found plain
 pub entries-by-length : (l : List ℕ) → scanOf true l ≡ Plain → entriesByLength l ≡ entriesOf l

@@ -13,18 +13,18 @@ use lib.ListN.{length}
 use Rattle.base.specs.Bytes.{u16At, u32At, part}
 use Rattle.base.specs.Bits.{has}
 use Rattle.base.proofs.BytesLaws.{part-empty}
-use Rattle.lists.specs.Sid.{sidEnd, isSid}
+use Rattle.sids.specs.Sid.{sidEnd, isSid}
 use Rattle.lists.specs.Acl.{aclEnd, scanned, scanOf}
 use Rattle.lists.specs.Descriptor.{heading, bad, absent, alien, startOf, endOf, placeOf, Inside}
 use Rattle.lists.specs.Descriptor.{ownerPiece, groupPiece, saclPiece, daclPiece, refusedParts, wholeParts, judged, partsOf}
 use Rattle.lists.specs.Descriptor.{ownerOf, groupOf, saclOf, daclOf}
-use Rattle.lists.specs.declared.acl.Scan as scan
-use Rattle.lists.specs.declared.acl.Scan.the-variants.{Plain}
+use Rattle.conditions.specs.declared.scan.Scan as scan
+use Rattle.conditions.specs.declared.scan.Scan.the-variants.{Plain}
 use Rattle.lists.specs.declared.descriptor.Extent.{Extent}
 use Rattle.lists.specs.declared.descriptor.Piece.{Piece}
 use Rattle.lists.specs.declared.descriptor.Verdict.the-variants.{Whole, Misshapen, Ownerless, ForeignEntry}
 use Rattle.lists.specs.declared.descriptor.Parts.{Parts}
-use Rattle.lists.proofs.SidLaws.{sid-of-part}
+use Rattle.sids.proofs.SidLaws.{sid-of-part}
 use Rattle.lists.proofs.DescriptorSteps.{judged-whole, parts-refused, parts-judged, refused-inside, judged-inside}
 use Rattle.lists.proofs.PieceLaws.{SidPiece, sid-piece-cases, sid-piece-within, acl-piece-within}
 use Rattle.lists.proofs.PieceLaws.{Listed, piece-listed, absent-nothing}

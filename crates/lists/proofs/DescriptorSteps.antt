@@ -11,7 +11,7 @@ use lib.ListN.{length}
 use borrow.Author.Tests.{lt-ltb, le-ltb, eq-eqb, ne-eqb}
 use Rattle.base.specs.Bytes.{byteAt, u16At, part}
 use Rattle.base.specs.Bits.{has}
-use Rattle.lists.specs.Sid.{sidEnd}
+use Rattle.sids.specs.Sid.{sidEnd}
 use Rattle.lists.specs.Acl.{aclEnd, scanOf}
 use Rattle.lists.specs.Descriptor.{heading, sidPiece, aclPiece, pieceOf, bad, absent, alien, placeOf}
 use Rattle.lists.specs.Descriptor.{ownerPiece, groupPiece, saclPiece, daclPiece}

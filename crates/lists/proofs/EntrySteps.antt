@@ -1,6 +1,7 @@
--- What an entry is, and what all are, by each test in its order. For `holds`, `entry_end`, `scan_entries` and `ace_at`.
--- In order: an entry's body (holds-..), the whole entry (entry-end-..), the walk over all entries (Left, scan-..), the entry that the code
--- reads (found, ace-at-..).
+-- What an entry is, and what all are, by each test in its order. For `holds`, `entry_end`, `content`, `scan_all` and
+-- `ace_at`.
+-- In order: an entry's body (holds-..), the whole entry (entry-end-..), the walk over all entries (Left, scan-..), what an entry holds
+-- (content-..), the entry that the code reads (found, ace-at-..).
 -- Not here: headings, AclSteps; what an accepted list is, AclLaws. Assumes nothing.
 use Prim.Native.Nat.{ℕ, suc, _+_, _-_, _*_, _<_, _≤_}
 use mathlib.Core.Path.{_≡_, refl, sym, ap, _∙_}
@@ -10,13 +11,16 @@ use native.Mathlib.Omega.{arith}
 use lib.Dec.{eqb, leb}
 use lib.ListN.{length}
 use borrow.Author.Tests.{lt-ltb, le-ltb, eq-eqb, ne-eqb, eqb-true, eqb-false, le-leb, lt-leb, leb-true, leb-false}
-use Rattle.base.specs.Bytes.{byteAt, u16At, u32At}
-use Rattle.lists.specs.Sid.{sidEnd}
-use Rattle.lists.specs.Acl.{headEnd, named, fitting, holds, entryEnd, shaped, foreign, scanned, scanOf, noAce, aceAt}
+use Rattle.base.specs.Bytes.{byteAt, u16At, u32At, part}
+use Rattle.sids.specs.Sid.{sidEnd}
+use Rattle.conditions.specs.Scanning.{isBroken, isForeign}
+use Rattle.conditions.specs.Condition.{shape}
+use Rattle.lists.specs.Acl.{headEnd, callback, named, fitting, holds, entryEnd, contentOf, shaped, foreign, scanned, scanOf, noAce}
+use Rattle.lists.specs.Acl.{aceAt}
 use Rattle.lists.specs.declared.acl.Ace.{Ace}
-use Rattle.lists.specs.declared.acl.Scan.{Scan}
-use Rattle.lists.specs.declared.acl.Scan.the-variants.{Broken, Foreign, Plain}
-use Rattle.lists.proofs.SidLaws.{sid-end-other, sid-end-many, sid-end-cut, sid-end-whole, sid-end-bounds}
+use Rattle.conditions.specs.declared.scan.Scan.{Scan}
+use Rattle.conditions.specs.declared.scan.Scan.the-variants.{Broken, Foreign, Plain}
+use Rattle.sids.proofs.SidLaws.{sid-end-other, sid-end-many, sid-end-cut, sid-end-whole, sid-end-bounds}
 use Rattle.lists.proofs.AclSteps.{head-end-bounds}
 
 -- ---- an entry's body, and the whole entry
@@ -96,9 +100,9 @@ module _ (deep : Bool) (l : List ℕ) (at : ℕ) where
   unfolding entryEnd
   entry-end-is h = picked (deep && named (byteAt l at)) (holds l at (headEnd l at)) (headEnd l at) h
 
-  pub entry-end-foreign : 2 ≤ byteAt l at → entryEnd deep l at ≡ headEnd l at
+  pub entry-end-foreign : named (byteAt l at) ≡ false → entryEnd deep l at ≡ headEnd l at
   unfolding entryEnd
-  entry-end-foreign h = rw (le-ltb (byteAt l at) 2 h) (go deep)
+  entry-end-foreign h = rw h (go deep)
     where
       go : (t : Bool) → cond (t && false) (cond (holds l at (headEnd l at)) (headEnd l at) 0) (headEnd l at) ≡ headEnd l at
       go true = refl
@@ -116,12 +120,13 @@ pub entry-end-shallow : (l : List ℕ) (at : ℕ) → entryEnd false l at ≡ he
 unfolding entryEnd
 entry-end-shallow l at = refl
 
-pub entry-end-named : (l : List ℕ) (at : ℕ) → byteAt l at < 2 → entryEnd true l at ≡ cond (holds l at (headEnd l at)) (headEnd l at) 0
+pub entry-end-named : (l : List ℕ) (at : ℕ) → named (byteAt l at) ≡ true →
+    entryEnd true l at ≡ cond (holds l at (headEnd l at)) (headEnd l at) 0
 unfolding entryEnd
-entry-end-named l at h = rw (lt-ltb (byteAt l at) 2 h)
+entry-end-named l at h = rw h
 
--- an allow or deny entry whose SID ends inside it is well shaped
-pub entry-end-whole : (l : List ℕ) (at : ℕ) → byteAt l at < 2 → (sidEnd l (at + 8) ≡ 0 → ⊥) → sidEnd l (at + 8) ≤ headEnd l at →
+-- an entry of one of the four types whose SID ends inside it is well shaped
+pub entry-end-whole : (l : List ℕ) (at : ℕ) → named (byteAt l at) ≡ true → (sidEnd l (at + 8) ≡ 0 → ⊥) → sidEnd l (at + 8) ≤ headEnd l at →
     entryEnd true l at ≡ headEnd l at
 entry-end-whole l at n h k = entry-end-named l at n ∙ rw (holds-inside l at (headEnd l at) h k) refl
 
@@ -148,22 +153,50 @@ module _ (deep : Bool) (l : List ℕ) (met : Bool) (m k at : ℕ) where
   unfolding shaped
   scan-broken h e = let n : m - k ≡ suc (m - (k + 1)) = omega arith in rw (n, eq-eqb (entryEnd deep l at) 0 e)
 
-  pub scan-more : k < m → (entryEnd deep l at ≡ 0 → ⊥) →
-      Left deep l met (m - k) at ≡ Left deep l (cond (named (byteAt l at)) met true) (m - (k + 1)) (entryEnd deep l at)
-  unfolding shaped foreign
-  scan-more h e =
-      let n : m - k ≡ suc (m - (k + 1)) = omega arith in
-      rw (n, ne-eqb (entryEnd deep l at) 0 e)
-      (ap (scanned (shaped deep l (m - (k + 1)) (entryEnd deep l at))) (go met (named (byteAt l at))))
-    where
-      rest : Bool
-      rest = foreign deep l (m - (k + 1)) (entryEnd deep l at)
+  module _ (to : ℕ) (ends : to ≡ entryEnd deep l at) (some : to ≡ 0 → ⊥) where
+    pub scan-spoilt : k < m → isBroken (contentOf deep l at to) ≡ true → Left deep l met (m - k) at ≡ Broken
+    unfolding shaped
+    scan-spoilt h b =
+        let n : m - k ≡ suc (m - (k + 1)) = omega arith in
+        rw (n, ← ends, ne-eqb to 0 some, b)
 
-      go : (t u : Bool) → (t || cond u rest true) ≡ (cond u t true || rest)
-      go true true = refl
-      go true false = refl
-      go false true = refl
-      go false false = refl
+    pub scan-more : k < m → isBroken (contentOf deep l at to) ≡ false →
+        Left deep l met (m - k) at ≡ Left deep l (met || isForeign (contentOf deep l at to)) (m - (k + 1)) to
+    unfolding shaped foreign
+    scan-more h b =
+        let n : m - k ≡ suc (m - (k + 1)) = omega arith in
+        rw (n, ← ends, ne-eqb to 0 some, b)
+        (ap (scanned (shaped deep l (m - (k + 1)) to))
+        (go met (isForeign (contentOf deep l at to)) (foreign deep l (m - (k + 1)) to)))
+      where
+        go : (t u r : Bool) → (t || cond u true r) ≡ ((t || u) || r)
+        go true u r = refl
+        go false true r = refl
+        go false false r = refl
+
+-- ---- what an entry holds
+
+module _ (deep : Bool) (l : List ℕ) (at e : ℕ) where
+  pub content-plain : named (byteAt l at) ≡ true → callback (byteAt l at) ≡ false → contentOf deep l at e ≡ Plain
+  unfolding contentOf
+  content-plain n c = rw (n, c) (go deep)
+    where
+      go : (t : Bool) → cond (t && false) (shape (part l (sidEnd l (at + 8)) e)) Plain ≡ Plain
+      go true = refl
+      go false = refl
+
+  pub content-foreign : named (byteAt l at) ≡ false → contentOf deep l at e ≡ Foreign
+  unfolding contentOf
+  content-foreign n = rw n
+
+pub content-shallow : (l : List ℕ) (at e : ℕ) → named (byteAt l at) ≡ true → contentOf false l at e ≡ Plain
+unfolding contentOf
+content-shallow l at e n = rw n
+
+pub content-condition : (l : List ℕ) (at e : ℕ) → named (byteAt l at) ≡ true → callback (byteAt l at) ≡ true →
+    contentOf true l at e ≡ shape (part l (sidEnd l (at + 8)) e)
+unfolding contentOf
+content-condition l at e n c = rw (n, c)
 
 -- ---- the entry that the code reads
 
@@ -176,9 +209,9 @@ module _ (l : List ℕ) (at : ℕ) where
       go true = refl
       go false = refl
 
-  pub ace-at-foreign : 2 ≤ byteAt l at → aceAt l at ≡ noAce
+  pub ace-at-foreign : named (byteAt l at) ≡ false → aceAt l at ≡ noAce
   unfolding aceAt
-  ace-at-foreign h = rw (le-ltb (byteAt l at) 2 h)
+  ace-at-foreign h = rw h
 
   -- the entry where one stands
   abbrev pub found : Ace
@@ -192,13 +225,13 @@ module _ (l : List ℕ) (at : ℕ) where
         next = entryEnd true l at;
       }
 
-  pub ace-at-some : byteAt l at < 2 → (entryEnd true l at ≡ 0 → ⊥) → aceAt l at ≡ found
+  pub ace-at-some : named (byteAt l at) ≡ true → (entryEnd true l at ≡ 0 → ⊥) → aceAt l at ≡ found
   unfolding aceAt
-  ace-at-some n h = rw (lt-ltb (byteAt l at) 2 n, ne-eqb (entryEnd true l at) 0 h)
+  ace-at-some n h = rw (n, ne-eqb (entryEnd true l at) 0 h)
 
   -- the entry, from what the code read of it
   pub ace-at-made : (m t e : ℕ) → m ≡ u32At l (at + 4) → t ≡ sidEnd l (at + 8) → e ≡ entryEnd true l at →
-      byteAt l at < 2 → (entryEnd true l at ≡ 0 → ⊥) →
+      named (byteAt l at) ≡ true → (entryEnd true l at ≡ 0 → ⊥) →
       _≡_
       {A = Ace}
       (record {
@@ -212,20 +245,20 @@ module _ (l : List ℕ) (at : ℕ) where
       (aceAt l at)
   ace-at-made m t e p q r n h = rw (p, q, r) (sym (ace-at-some n h))
 
-  -- an allow or deny entry that is well shaped holds a SID
-  pub entry-end-holds : byteAt l at < 2 → (entryEnd true l at ≡ 0 → ⊥) → holds l at (entryEnd true l at) ≡ true
+  -- an entry of one of the four types that is well shaped holds a SID
+  pub entry-end-holds : named (byteAt l at) ≡ true → (entryEnd true l at ≡ 0 → ⊥) → holds l at (entryEnd true l at) ≡ true
   entry-end-holds n h = go (holds l at (headEnd l at)) refl
     where
       go : (t : Bool) → holds l at (headEnd l at) ≡ t → holds l at (entryEnd true l at) ≡ true
       go true q = ap (holds l at) (entry-end-is true l at h) ∙ q
       go false q = absurd (h (rw (entry-end-named l at n, q) refl))
 
-  pub entry-end-sid : byteAt l at < 2 → (entryEnd true l at ≡ 0 → ⊥) → sidEnd l (at + 8) ≡ 0 → ⊥
+  pub entry-end-sid : named (byteAt l at) ≡ true → (entryEnd true l at ≡ 0 → ⊥) → sidEnd l (at + 8) ≡ 0 → ⊥
   entry-end-sid n h q =
       let f = holds-none l at (entryEnd true l at) q in
       let t = entry-end-holds n h in
       let z : _≡_ {A = ℕ} 0 1 = cc in
       omega arith
 
-  pub entry-end-fits : byteAt l at < 2 → (entryEnd true l at ≡ 0 → ⊥) → sidEnd l (at + 8) ≤ entryEnd true l at
+  pub entry-end-fits : named (byteAt l at) ≡ true → (entryEnd true l at ≡ 0 → ⊥) → sidEnd l (at + 8) ≤ entryEnd true l at
   entry-end-fits n h = holds-fits l at (entryEnd true l at) (entry-end-sid n h) (entry-end-holds n h)

@@ -1,9 +1,8 @@
 -- The laws of this crate's definitions, for the proofs of its callers.
-pub mod PartLaws
-pub mod SidLaws
-pub mod SingleLaws
+pub mod TypeLaws
 pub mod AclSteps
 pub mod EntrySteps
+pub mod SimpleLaws
 pub mod AclLaws
 pub mod ByLengthLaws
 pub mod SpareLaws

@@ -12,15 +12,15 @@ use lib.Dec.{ltb, eqb}
 use borrow.Author.Tests.{ltb-true, ltb-false, eqb-true, eqb-false}
 use Rattle.base.specs.Bytes.{part}
 use Rattle.base.proofs.BytesLaws.{part-empty}
-use Rattle.lists.specs.Sid.{sidEnd}
+use Rattle.sids.specs.Sid.{sidEnd}
 use Rattle.lists.specs.Acl.{aclEnd, scanned, scanOf}
 use Rattle.lists.specs.Descriptor.{sidPiece, aclPiece, pieceOf, bad, absent, alien, startOf, endOf, placeOf, LiesIn}
-use Rattle.lists.specs.declared.acl.Scan as scan
-use Rattle.lists.specs.declared.acl.Scan.{Scan}
-use Rattle.lists.specs.declared.acl.Scan.the-variants.{Plain}
+use Rattle.conditions.specs.declared.scan.Scan as scan
+use Rattle.conditions.specs.declared.scan.Scan.{Scan}
+use Rattle.conditions.specs.declared.scan.Scan.the-variants.{Plain}
 use Rattle.lists.specs.declared.descriptor.Piece.{Piece}
 use Rattle.lists.specs.declared.descriptor.Piece.the-variants.{Bad, Absent, At, Alien}
-use Rattle.lists.proofs.SidLaws.{sid-end-bounds}
+use Rattle.sids.proofs.SidLaws.{sid-end-bounds}
 use Rattle.lists.proofs.AclSteps.{acl-end-bounds}
 use Rattle.lists.proofs.AclLaws.{acl-of-part}
 use Rattle.lists.proofs.DescriptorSteps.{sid-piece-absent, sid-piece-low, sid-piece-bad, sid-piece-at}

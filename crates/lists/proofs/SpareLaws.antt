@@ -1,21 +1,21 @@
--- Entries with spare bytes or without (request 101): which allow and deny entries are well shaped (long-enough), the heading of one
--- (entry-head), where the next begins and where it lies (ace-next, ace-bounds, ace-past), and what the entries of an accepted list say
--- (entries-said).
+-- Entries with spare bytes or without (request 101): which entries with a SID are well shaped (long-enough), the heading of one
+-- (entry-head), where the next begins and where it lies (ace-next, ace-bounds, read-fits, ace-past), and what the entries of an accepted
+-- list say (entries-said).
 -- Not here: that nothing else is read, AlikeLaws. Assumes nothing.
 use Prim.Native.Nat.{ℕ, zero, suc, _+_, _<_, _≤_}
 use mathlib.Core.Path.{_≡_, refl, ap, ap₂, _∙_}
-use mathlib.Core.List.{List, _∷_}
-use mathlib.Core.Bool.{true}
+use mathlib.Core.List.{List, [], _∷_}
+use mathlib.Core.Bool.{Bool, true, false, cond}
 use mathlib.Core.Logic.{_↔_}
 use native.Mathlib.Omega.{arith}
 use lib.ListN.{length}
-use Rattle.base.specs.Bytes.{byteAt, u16At}
-use Rattle.lists.specs.Sid.{sidEnd}
-use Rattle.lists.specs.Acl.{headEnd, entryEnd, scanOf, Entry, aceAt, entryOf, entriesAt, entriesOf}
-use Rattle.lists.specs.Spare.{LongEnough, saidAt}
+use Rattle.base.specs.Bytes.{byteAt, u16At, part}
+use Rattle.sids.specs.Sid.{sidEnd}
+use Rattle.lists.specs.Acl.{callback, headEnd, named, entryEnd, scanOf, Entry, aceAt, entryOf, entriesAt, entriesOf}
+use Rattle.lists.specs.Spare.{LongEnough, saidAt, readTo}
 use Rattle.lists.specs.declared.acl.Ace.{Ace}
-use Rattle.lists.specs.declared.acl.Scan.the-variants.{Plain}
-use Rattle.lists.proofs.SidLaws.{sid-end-bounds}
+use Rattle.conditions.specs.declared.scan.Scan.the-variants.{Plain}
+use Rattle.sids.proofs.SidLaws.{sid-end-bounds}
 use Rattle.lists.proofs.AclSteps.{HeadAt, head-at, head-end-short, head-end-whole}
 use Rattle.lists.proofs.EntrySteps.{entry-end-none, entry-end-is, entry-end-bounds, entry-end-whole, entry-end-sid, entry-end-fits}
 use Rattle.lists.proofs.EntrySteps.{found, ace-at-none, ace-at-some}
@@ -27,7 +27,7 @@ use Rattle.lists.proofs.AclLaws.{ace-found, entries-more, Plainly, plai
 pub entry-head : (l : List ℕ) (at : ℕ) → (entryEnd true l at ≡ 0 → ⊥) → HeadAt l at
 entry-head l at h = head-at l at (λ z. h (entry-end-is true l at h ∙ z))
 
-long-of-shaped : (l : List ℕ) (at : ℕ) → byteAt l at < 2 → (entryEnd true l at ≡ 0 → ⊥) → LongEnough l at
+long-of-shaped : (l : List ℕ) (at : ℕ) → named (byteAt l at) ≡ true → (entryEnd true l at ≡ 0 → ⊥) → LongEnough l at
 long-of-shaped l at n h =
     let a : HeadAt l at = entry-head l at h in
     let e : entryEnd true l at ≡ headEnd l at = entry-end-is true l at h in
@@ -35,7 +35,7 @@ long-of-shaped l at n h =
     let b = sid-end-bounds l (at + 8) (entry-end-sid l at n h) in
     record { sid = entry-end-sid l at n h; size = omega (arith, b .0); four = a .four; inside = a .whole }
 
-shaped-of-long : (l : List ℕ) (at : ℕ) → byteAt l at < 2 → LongEnough l at → entryEnd true l at ≡ 0 → ⊥
+shaped-of-long : (l : List ℕ) (at : ℕ) → named (byteAt l at) ≡ true → LongEnough l at → entryEnd true l at ≡ 0 → ⊥
 shaped-of-long l at n w z =
     let b = sid-end-bounds l (at + 8) (w .sid) in
     let b0 : at + 8 + 8 ≤ sidEnd l (at + 8) = b .0 in
@@ -44,8 +44,8 @@ shaped-of-long l at n w z =
     let q : entryEnd true l at ≡ headEnd l at = entry-end-whole l at n (w .sid) (omega (arith, w .size)) in
     omega arith
 
--- an allow or deny entry is well shaped exactly when its size is 8 plus its SID's length or more, a multiple of 4, and inside the list
-pub long-enough : (l : List ℕ) (at : ℕ) → byteAt l at < 2 → (entryEnd true l at ≡ 0 → ⊥) ↔ LongEnough l at
+-- an entry with a SID is well shaped exactly when its size is 8 plus its SID's length or more, a multiple of 4, and inside the list
+pub long-enough : (l : List ℕ) (at : ℕ) → named (byteAt l at) ≡ true → (entryEnd true l at ≡ 0 → ⊥) ↔ LongEnough l at
 long-enough l at n = (long-of-shaped l at n, shaped-of-long l at n)
 
 -- the next entry begins where the size says
@@ -74,6 +74,14 @@ ace-bounds l at h =
     let b1 : entryEnd true l at ≤ length l = b .1 in
     record { sid = omega arith; fits = omega arith; past = omega arith; inside = omega arith }
 
+-- no byte behind it is read
+pub read-fits : (l : List ℕ) (at : ℕ) → (aceAt l at .next ≡ 0 → ⊥) → readTo (aceAt l at) ≤ aceAt l at .next
+read-fits l at h = go (callback (aceAt l at .kind)) (ace-bounds l at h .fits)
+  where
+    go : (t : Bool) → aceAt l at .to ≤ aceAt l at .next → cond t (aceAt l at .next) (aceAt l at .to) ≤ aceAt l at .next
+    go true f = omega arith
+    go false f = f
+
 -- no entry stands at the end of a list, or behind it
 pub ace-past : (l : List ℕ) (at : ℕ) → length l ≤ at → aceAt l at .next ≡ 0
 ace-past l at h =
@@ -81,14 +89,20 @@ ace-past l at h =
 
 -- ---- what the entries of an accepted list say
 
--- an entry says its type, flags, mask and SID, whatever its size
+-- an entry says its type, flags, mask, SID and condition, whatever its size
 entry-said : (l : List ℕ) (n at : ℕ) → (aceAt l at .next ≡ 0 → ⊥) →
     entryOf l (aceAt l at) ∷ saidAt l n (aceAt l at .next) ≡ saidAt l (suc n) at
 unfolding saidAt
 entry-said l n at h =
     let f = ace-found l at h in
     ap₂
-    (λ (a : Ace) (e : ℕ). entryOf l a ∷ saidAt l n e)
+    (λ (a : Ace) (e : ℕ). record {
+      kind = a .kind;
+      flags = a .flags;
+      mask = a .mask .0;
+      sid = part l (a .from) (a .to);
+      condition = cond (callback (a .kind)) (part l (a .to) e) [];
+    } ∷ saidAt l n e)
     (ace-at-some l at (f .0) (f .1))
     (ace-next l at h)
 
@@ -97,9 +111,9 @@ unfolding entriesAt saidAt
 plain-said l zero at p = refl
 plain-said l (suc n) at p =
     let o = plain-more l n at p in
-    entries-more l n at (o .0)
-    ∙ ap (λ (r : List Entry). entryOf l (aceAt l at) ∷ r) (plain-said l n (aceAt l at .next) (o .1))
-    ∙ entry-said l n at (o .0)
+    entries-more l n at (o .some)
+    ∙ ap (λ (r : List Entry). entryOf l (aceAt l at) ∷ r) (plain-said l n (aceAt l at .next) (o .rest))
+    ∙ entry-said l n at (o .some)
 
 pub entries-said : (l : List ℕ) → scanOf true l ≡ Plain → entriesOf l ≡ saidAt l (u16At l 4) 8
 unfolding entriesOf

@@ -6,10 +6,10 @@ use lib.ListN.{length}
 use lib.Dec.{ltb, eqb}
 use Rattle.base.specs.Bytes.{byteAt, u16At, u32At, part}
 use Rattle.base.specs.Bits.{has}
-use Rattle.lists.specs.Sid.{sidEnd}
+use Rattle.sids.specs.Sid.{sidEnd}
 use Rattle.lists.specs.Acl.{aclEnd, scanOf}
-use Rattle.lists.specs.declared.acl.Scan as scan
-use Rattle.lists.specs.declared.acl.Scan.{Scan}
+use Rattle.conditions.specs.declared.scan.Scan as scan
+use Rattle.conditions.specs.declared.scan.Scan.{Scan}
 use Rattle.lists.specs.declared.descriptor.Piece.{Piece}
 use Rattle.lists.specs.declared.descriptor.Piece.the-variants.{Bad, Absent, At, Alien}
 use Rattle.lists.specs.declared.descriptor.Verdict.{Verdict}
@@ -123,7 +123,8 @@ wholeParts o g s a =
       dacl = placeOf a;
     }
 
--- shape over the whole part first; then 7, "owner offset is 0"; then 8, "DACL holds an entry type other than 0 or 1". Parts may overlap
+-- shape over the whole part first; then 7, "owner offset is 0"; then 8, "DACL holds an entry type other than 0 or 1" (9 and 10 too since
+-- request 103), or an other token. Parts may overlap
 unfoldable pub judged : Piece → Piece → Piece → Piece → Parts
 judged o g s a =
     cond (bad o) (refusedParts Misshapen)

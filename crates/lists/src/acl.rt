@@ -1,25 +1,24 @@
-// One list and its entries, at places of lent bytes. What an identity is stands in `sid`.
+// One list and its entries, at places of lent bytes. What an identity is stands in `sids`,
+// what a condition is in `conditions`.
 ghost use mathlib.Core.Path.{_≡_};
-ghost use mathlib.Core.Bool.{true, cond, _||_};
-ghost use Prim.Native.Nat.{_≤_};
+ghost use mathlib.Core.Bool.{_||_};
+ghost use Prim.Native.Nat.{_≤_, _<_};
 ghost use lib.ListN.{length};
 ghost use lib.Dec.{eqb};
-ghost use Rattle.lists.specs.Acl.{aclEnd, headEnd, named, holds, entryEnd};
-ghost use Rattle.lists.specs.Acl.{scanOf, noAce, aceAt};
-use crate::sid::sid_end;
+ghost use Rattle.lists.specs.Acl.{aclEnd, headEnd, callback, named, holds, entryEnd};
+ghost use Rattle.lists.specs.Acl.{contentOf, scanOf, noAce, aceAt};
+ghost use Rattle.lists.specs.Simple.{fitsAs, simple};
+use conditions::Scan;
+use conditions::is_broken;
+use conditions::is_foreign;
+use sids::sid_end;
 
 // A rights mask. A group's attribute word is another type, so that the two cannot change places.
 pub struct Rights(pub u32);
 
-// What a list holds: misshapen entries, an entry of another type than 0 and 1, or plain entries.
-pub enum Scan {
-    Broken,
-    Foreign,
-    Plain,
-}
-
-// An allow or deny entry: its SID stands from `from` to `to`, and `next` is the place after the
-// entry, with spare bytes between the two or none. All 0 where no such entry stands.
+// An allow, deny or callback entry: its SID stands from `from` to `to`, and `next` is the place
+// after the entry. Between the two stands the condition of a callback entry, or spare bytes of
+// another, or nothing. All 0 where no such entry stands.
 pub struct Ace {
     pub kind: u8,
     pub flags: u8,
@@ -87,8 +86,8 @@ fn head_end(l: &[u8], at: usize) -> usize
     at + n
 }
 
-// Whether the entry from `at` to `e` holds a mask and one SID. What follows the SID is spare. Its
-// bytes are those of the list, so that only its own end is asked for.
+// Whether the entry from `at` to `e` holds a mask and one SID. What follows the SID is not asked.
+// Its bytes are those of the list, so that only its own end is asked for.
 fn holds(l: &[u8], at: usize, e: usize) -> bool
     requires { ⌜ (at ≤ e) × (e ≤ length (now l)) ⌝ }
     ensures { λ r. ⌜ r ≡ holds (now (l .entry)) at e ⌝ }
@@ -107,7 +106,27 @@ fn holds(l: &[u8], at: usize, e: usize) -> bool
     k <= e
 }
 
-// The place after the entry at `at`, or 0. An allow or deny entry's body is judged where `deep`.
+// Whether a type is 9 or 10: allow or deny with a condition.
+pub fn is_callback(kind: u8) -> bool
+    ensures { λ r. ⌜ r ≡ callback kind ⌝ }
+{
+    if kind == 9 {
+        return true;
+    }
+    kind == 10
+}
+
+// Whether an entry of a type holds a mask and one SID.
+fn is_named(kind: u8) -> bool
+    ensures { λ r. ⌜ r ≡ named kind ⌝ }
+{
+    if kind <= 1 {
+        return true;
+    }
+    is_callback(kind)
+}
+
+// The place after the entry at `at`, or 0. That it holds a mask and one SID is judged where `deep`.
 fn entry_end(l: &[u8], at: usize, deep: bool) -> usize
     ensures { λ r. ⌜ r ≡ entryEnd deep (now (l .entry)) at ⌝ }
     ensures { λ r. ⌜ r ≤ length (now (l .entry)) ⌝ }
@@ -119,7 +138,7 @@ fn entry_end(l: &[u8], at: usize, deep: bool) -> usize
     if !deep {
         return e;
     }
-    if 1 < l[at] {
+    if !is_named(l[at]) {
         return e;
     }
     if holds(l, at, e) {
@@ -128,18 +147,29 @@ fn entry_end(l: &[u8], at: usize, deep: bool) -> usize
     0
 }
 
-// Whether a foreign type was met: before, or now that `kind` is.
-fn met(before: bool, kind: u8) -> bool
-    ensures { λ r. ⌜ r ≡ cond (named kind) before true ⌝ }
+// What the entry from `at` to `e` holds: a foreign type, a condition that is judged where `deep`,
+// or nothing that could be wrong.
+fn content(l: &[u8], at: usize, e: usize, deep: bool) -> Scan
+    requires { ⌜ (at < e) × (e ≤ length (now l)) ⌝ }
+    requires { ⌜ entryEnd deep (now l) at ≡ e ⌝ }
+    ensures { λ r. ⌜ r ≡ contentOf deep (now (l .entry)) at e ⌝ }
 {
+    let kind = l[at];
     if kind < 2 {
-        return before;
+        return Scan::Plain;
     }
-    true
+    if !is_callback(kind) {
+        return Scan::Foreign;
+    }
+    if !deep {
+        return Scan::Plain;
+    }
+    let from = sid_end(l, at + 8);
+    conditions::judge(&l[from..e])
 }
 
-// What the entries of the list's own bytes are; deep in a DACL. One walk.
-pub fn scan_entries(l: &[u8], deep: bool) -> Scan
+// What the entries of the list's own bytes are, one by one.
+fn scan_all(l: &[u8], deep: bool) -> Scan
     ensures { λ r. ⌜ r ≡ scanOf deep (now (l .entry)) ⌝ }
 {
     let n = base::u16_at(l, 4);
@@ -151,7 +181,11 @@ pub fn scan_entries(l: &[u8], deep: bool) -> Scan
         if e == 0 {
             return Scan::Broken;
         }
-        alien = met(alien, l[at]);
+        let found = content(l, at, e, deep);
+        if is_broken(found) {
+            return Scan::Broken;
+        }
+        alien = base::either(alien, is_foreign(found));
         at = e;
         k += 1;
     }
@@ -161,7 +195,54 @@ pub fn scan_entries(l: &[u8], deep: bool) -> Scan
     Scan::Plain
 }
 
-// No allow or deny entry.
+// Whether the entry from `at` to `e` holds a mask and one SID, where `deep`; else that is not
+// asked.
+fn fits(l: &[u8], at: usize, e: usize, deep: bool) -> bool
+    requires { ⌜ (at ≤ e) × (e ≤ length (now l)) ⌝ }
+    ensures { λ r. ⌜ r ≡ fitsAs deep (now (l .entry)) at e ⌝ }
+{
+    if !deep {
+        return true;
+    }
+    holds(l, at, e)
+}
+
+// Whether all entries have type 0 or 1 and are well shaped. Most lists are so.
+fn is_simple(l: &[u8], deep: bool) -> bool
+    ensures { λ r. ⌜ r ≡ simple deep (now (l .entry)) ⌝ }
+{
+    let n = base::u16_at(l, 4);
+    let mut at: usize = 8;
+    let mut k: u32 = 0;
+    while k < n {
+        let e = head_end(l, at);
+        if e == 0 {
+            return false;
+        }
+        if 1 < l[at] {
+            return false;
+        }
+        if !fits(l, at, e, deep) {
+            return false;
+        }
+        at = e;
+        k += 1;
+    }
+    true
+}
+
+// What the entries of the list's own bytes are; deep in a DACL. A list with conditions, with other
+// types or with a fault is walked once more from the front.
+pub fn scan_entries(l: &[u8], deep: bool) -> Scan
+    ensures { λ r. ⌜ r ≡ scanOf deep (now (l .entry)) ⌝ }
+{
+    if is_simple(l, deep) {
+        return Scan::Plain;
+    }
+    scan_all(l, deep)
+}
+
+// No such entry.
 pub(crate) fn no_ace() -> Ace
     ensures { λ r. ⌜ r ≡ noAce ⌝ }
 {
@@ -175,7 +256,7 @@ pub(crate) fn no_ace() -> Ace
     }
 }
 
-// The allow or deny entry at a place of its list.
+// The entry with a SID at a place of its list. A condition is not judged here.
 pub fn ace_at(l: &[u8], at: usize) -> Ace
     ensures { λ r. ⌜ r ≡ aceAt (now (l .entry)) at ⌝ }
     ensures { λ r. ⌜ (r .from ≤ r .to)
@@ -186,7 +267,7 @@ pub fn ace_at(l: &[u8], at: usize) -> Ace
         return no_ace();
     }
     let kind = l[at];
-    if 1 < kind {
+    if !is_named(kind) {
         return no_ace();
     }
     let to = sid_end(l, at + 8);

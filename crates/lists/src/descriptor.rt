@@ -6,10 +6,10 @@ ghost use Rattle.lists.specs.Descriptor.{heading, sidPiece, aclPiece, ju
 ghost use Rattle.lists.specs.Descriptor.{bad, absent, alien, startOf, endOf, placeOf};
 ghost use Rattle.lists.specs.Descriptor.{refusedParts, Inside, partsOf, partIn};
 ghost use Rattle.lists.specs.Descriptor.{ownerOf, groupOf, saclOf, daclOf};
-use crate::acl::Scan;
 use crate::acl::acl_end;
 use crate::acl::scan_entries;
-use crate::sid::sid_end;
+use conditions::Scan;
+use sids::sid_end;
 
 // What a descriptor is; the page's numbers are 0, 6, 7 and 8.
 pub enum Verdict {
@@ -19,7 +19,7 @@ pub enum Verdict {
     ForeignEntry,
 }
 
-// A part that an offset names: misshapen, not there, there, or a list with a foreign entry type.
+// A part that an offset names: misshapen, not there, there, or a list with something foreign.
 pub enum Piece {
     Bad,
     Absent,

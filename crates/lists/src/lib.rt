@@ -1,15 +1,13 @@
-// Identities, lists and descriptors (MS-DTYP), read in place from lent bytes. Knows nothing of
-// tokens.
+// Lists and descriptors (MS-DTYP), read in place from lent bytes. Knows nothing of tokens.
 mod acl;
 mod by_length;
 mod descriptor;
-mod sid;
 
 pub use acl::Ace;
 pub use acl::Rights;
-pub use acl::Scan;
 pub use acl::ace_at;
 pub use acl::acl_end;
+pub use acl::is_callback;
 pub use acl::scan_entries;
 pub use by_length::ace_by_length;
 pub use descriptor::Extent;
@@ -21,7 +19,3 @@ pub use descriptor::owner;
 pub use descriptor::part;
 pub use descriptor::read;
 pub use descriptor::sacl;
-pub use sid::is_owner_rights;
-pub use sid::is_sid;
-pub use sid::is_virtual;
-pub use sid::sid_end;

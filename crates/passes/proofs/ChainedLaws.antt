@@ -10,7 +10,7 @@ use borrow.Author.Tests.{eqb-true, eqb-false}
 use lib.Dec.{eqb}
 use lib.ListN.{length, getD}
 use Rattle.base.specs.Bytes.{u32At, part, same}
-use Rattle.lists.specs.Sid.{sidEnd}
+use Rattle.sids.specs.Sid.{sidEnd}
 use Rattle.records.specs.Crowd.{Member, membersAt, crowdAt}
 use Rattle.passes.specs.Chains.{row, chain, shownUnder, shown, Tables, tables, linked, chained, chainsOf}
 use Rattle.passes.specs.Key.{keyOf}

@@ -1,10 +1,12 @@
--- Two crowds among whom the same SIDs match answer alike: owner and self identity (hits-alike), a walk over any entries (walked-alike), and
--- normal evaluation (normal-alike). So the order of a crowd does not matter, nor whom a listing has twice. Assumes nothing.
+-- Two crowds among whom the same SIDs match answer alike: owner and self identity (hits-alike), conditions (admits-alike), a walk over any
+-- entries (walked-alike), and normal evaluation (normal-alike). So the order of a crowd does not matter, nor whom a listing has twice.
+-- Assumes nothing.
 use Prim.Native.Nat.{ℕ}
-use mathlib.Core.Bool.{Bool, true, false, cond}
+use mathlib.Core.Bool.{Bool, true, false, cond, _&&_}
 use mathlib.Core.List.{List, [], _∷_}
-use mathlib.Core.Path.{_≡_, refl, ap, _∙_}
+use mathlib.Core.Path.{_≡_, refl, ap, ap₂, _∙_}
 use Rattle.base.specs.Bits.{or}
+use Rattle.conditions.specs.Membership.{admits}
 use Rattle.lists.specs.Acl.{Entry}
 use Rattle.records.specs.Crowd.{Member}
 use Rattle.masks.specs.KindsAndMasks.{allBits}
@@ -12,7 +14,7 @@ use Rattle.masks.specs.TheTally.{emptied}
 use Rattle.masks.specs.declared.tally.Tally.{Tally}
 use Rattle.passes.specs.Matching.{among, stands, hitsOf, matches}
 use Rattle.passes.specs.NormalEvaluation.{Dacl, namesOwner, ownerGives, privilegesGive, normalOf}
-use Rattle.passes.specs.OnePass.{allows, taken, run}
+use Rattle.passes.specs.OnePass.{allows, member, speaks, taken, run}
 use Rattle.passes.specs.OneWalk.{walkedBy, walkedOf}
 use Rattle.passes.specs.declared.matching.Hits.{Hits}
 
@@ -33,9 +35,16 @@ module _ (ms ns : List Member) (same : Alike ms ns) where
   unfolding matches
   matches-alike allow h w = rw (same allow w)
 
+  -- so the same SIDs are members, and the same conditions admit
+  pub admits-alike : (h : Hits) (c : List ℕ) → admits (member ms h) c ≡ admits (member ns h) c
+  admits-alike h c = ap (λ (f : List ℕ → Bool). admits f c) (λ i w. matches-alike true h w i)
+
+  speaks-alike : (h : Hits) (x : Entry) → speaks ms h x ≡ speaks ns h x
+  speaks-alike h x = ap₂ (λ (a b : Bool). a && b) (matches-alike (allows x) h (x .sid)) (admits-alike h (x .condition))
+
   taken-alike : (kind : ℕ) (h : Hits) (t : Tally) (x : Entry) → taken kind ms h t x ≡ taken kind ns h t x
   unfolding taken
-  taken-alike kind h t x = rw (matches-alike (allows x) h (x .sid))
+  taken-alike kind h t x = rw (speaks-alike h x)
 
   run-alike : (kind : ℕ) (h : Hits) (es : List Entry) (t : Tally) → run kind ms h t es ≡ run kind ns h t es
   unfolding run

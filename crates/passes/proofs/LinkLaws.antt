@@ -12,8 +12,8 @@ use lib.ListN.{length, getD, set, length-set}
 use lib.Seq.{getD-set-same, getD-set-other}
 use Rattle.base.proofs.BytesLaws.{same-eq}
 use Rattle.base.specs.Bytes.{byteAt, part, same}
-use Rattle.lists.proofs.SidLaws.{SidAt, sid-at}
-use Rattle.lists.specs.Sid.{sidEnd}
+use Rattle.sids.proofs.SidLaws.{SidAt, sid-at}
+use Rattle.sids.specs.Sid.{sidEnd}
 use Rattle.records.specs.Crowd.{Member}
 use Rattle.passes.specs.Chains.{cellOf, toIn, nextIn, lastIn, memberIn, sitsIn, near, row, chain, shownUnder}
 use Rattle.passes.specs.Chains.{Tables, tables, linked}

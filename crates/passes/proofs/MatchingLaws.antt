@@ -9,7 +9,7 @@ use borrow.Author.Tests.{eq-eqb}
 use lib.Dec.{eqb}
 use lib.ListN.{length}
 use Rattle.base.specs.Bytes.{same}
-use Rattle.lists.specs.Sid.{ownerRights, principalSelf, virtual}
+use Rattle.sids.specs.Sid.{ownerRights, principalSelf, virtual}
 use Rattle.records.specs.Crowd.{Member}
 use Rattle.passes.specs.Matching.{among, stands, side, matches}
 use Rattle.passes.specs.OneWalk.{virtualMatches}

@@ -13,9 +13,8 @@ use Rattle.base.specs.Bits.{and, or, flip, bit, Within}
 use Rattle.lists.specs.Acl.{Entry}
 use Rattle.records.specs.Crowd.{Member}
 use Rattle.masks.specs.KindsAndMasks.{allBits, entryMask}
-use Rattle.passes.specs.Matching.{matches}
 use Rattle.masks.specs.TheTally.{emptied, allowing, denying}
-use Rattle.passes.specs.OnePass.{skipped, allows, taken, run, passed, granted}
+use Rattle.passes.specs.OnePass.{skipped, allows, speaks, taken, run, passed, granted}
 use Rattle.passes.specs.declared.matching.Hits.{Hits}
 use Rattle.masks.specs.declared.tally.Tally.{Tally}
 use Rattle.base.proofs.BoolLaws.{true-false}
@@ -26,7 +25,7 @@ use Rattle.masks.proofs.MasksLaws.{all-bits-lt, all-bits-high, within-lt, withi
 module _ (kind : ℕ) (ms : List Member) (h : Hits) where
   taken-within : (t : Tally) (x : Entry) → Within (t .allowed .0) (allBits kind) → Within (taken kind ms h t x .allowed .0) (allBits kind)
   unfolding taken
-  taken-within t x w = go (skipped x) (matches (allows x) ms h (x .sid)) (allows x)
+  taken-within t x w = go (skipped x) (speaks ms h x) (allows x)
     where
       m : ℕ
       m = entryMask kind (x .mask)
@@ -92,7 +91,7 @@ module _ (i : ℕ) (small : i < 32) where
   module _ (kind : ℕ) (ms : List Member) (h : Hits) where
     step-fits : (t : Tally) (x : Entry) → t .decided .0 < 2 ^ 32 → taken kind ms h t x .decided .0 < 2 ^ 32
     unfolding taken
-    step-fits t x k = go (skipped x) (matches (allows x) ms h (x .sid)) (allows x)
+    step-fits t x k = go (skipped x) (speaks ms h x) (allows x)
       where
         m : ℕ
         m = entryMask kind (x .mask)
@@ -108,9 +107,9 @@ module _ (i : ℕ) (small : i < 32) where
 
     step-bit : (t : Tally) (x : Entry) (f : Bool) → t .decided .0 < 2 ^ 32 →
         comes (taken kind ms h t x) i f
-        ≡ comes t i (cond (skipped x) f (cond (matches (allows x) ms h (x .sid)) (cond (bit (entryMask kind (x .mask)) i) (allows x) f) f))
+        ≡ comes t i (cond (skipped x) f (cond (speaks ms h x) (cond (bit (entryMask kind (x .mask)) i) (allows x) f) f))
     unfolding taken
-    step-bit t x f k = go (skipped x) (matches (allows x) ms h (x .sid)) (allows x)
+    step-bit t x f k = go (skipped x) (speaks ms h x) (allows x)
       where
         m : ℕ
         m = entryMask kind (x .mask)

@@ -10,8 +10,8 @@ use borrow.Author.Tests.{ltb-true, le-ltb, eq-eqb, ne-eqb}
 use lib.Dec.{ltb, eqb}
 use lib.ListN.{length}
 use Rattle.base.specs.Bytes.{u32At, part}
-use Rattle.lists.proofs.SidLaws.{sid-end-short}
-use Rattle.lists.specs.Sid.{sidEnd}
+use Rattle.sids.proofs.SidLaws.{sid-end-short}
+use Rattle.sids.specs.Sid.{sidEnd}
 use Rattle.records.specs.Crowd.{Member, plain, shown, membersAt, crowdAt}
 use Rattle.passes.specs.Seats.{allowWord, denyWord, noSeat, onward, firstSeat, seatAt, seated, fromSeat}
 use Rattle.passes.specs.declared.seats.Seat.{Seat}

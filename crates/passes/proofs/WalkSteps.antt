@@ -10,14 +10,14 @@ use Rattle.base.specs.Bits.{has, covers}
 use Rattle.base.specs.Bytes.{same, part, u16At}
 use Rattle.lists.specs.Acl.{Entry, entryOf}
 use Rattle.lists.specs.ByLength.{aceByLength, entriesByLengthAt, entriesByLength}
-use Rattle.lists.specs.Sid.{ownerRights, principalSelf, virtual}
+use Rattle.sids.specs.Sid.{ownerRights, principalSelf, virtual}
 use Rattle.lists.specs.declared.acl.Ace.{Ace}
 use Rattle.records.specs.Crowd.{Member}
 use Rattle.masks.specs.KindsAndMasks.{allBits, entryMask}
 use Rattle.passes.specs.Matching.{matches}
 use Rattle.passes.specs.NormalEvaluation.{counts, namesOwner}
 use Rattle.masks.specs.TheTally.{emptied, allowing, denying, stepped, idle}
-use Rattle.passes.specs.OnePass.{skipped, allows, taken, run}
+use Rattle.passes.specs.OnePass.{skipped, allows, speaks, taken, run}
 use Rattle.passes.specs.OneWalk.{walkedBy, walkedFrom, walkedOf}
 use Rattle.passes.specs.declared.matching.Hits.{Hits}
 use Rattle.masks.specs.declared.tally.Tally.{Tally}
@@ -31,7 +31,7 @@ use Rattle.masks.proofs.TallyLaws.{allowing-decided, denying-decided}
 pub taken-idle : (kind : ℕ) (ms : List Member) (h : Hits) (t : Tally) (x : Entry) → idle t (x .flags) (entryMask kind (x .mask)) ≡ true →
     taken kind ms h t x ≡ t
 unfolding taken
-taken-idle kind ms h t x e = go (has (x .flags) 0x08) (matches (allows x) ms h (x .sid)) (allows x) e
+taken-idle kind ms h t x e = go (has (x .flags) 0x08) (speaks ms h x) (allows x) e
   where
     m : ℕ
     m = entryMask kind (x .mask)
@@ -69,7 +69,7 @@ taken-full kind ms h t x e = taken-idle kind ms h t x (go (has (x .flags) 0x08))
     go false = rw e (within-covers (allBits kind) m (entry-mask-within kind (x .mask)))
 
 pub taken-by : (kind : ℕ) (ms : List Member) (h : Hits) (t : Tally) (x : Entry) (hit : Bool) (m : ℕ) → m ≡ entryMask kind (x .mask) →
-    skipped x ≡ false → hit ≡ matches (allows x) ms h (x .sid) → stepped t hit (allows x) m ≡ taken kind ms h t x
+    skipped x ≡ false → hit ≡ speaks ms h x → stepped t hit (allows x) m ≡ taken kind ms h t x
 unfolding taken
 taken-by kind ms h t x hit m e i p = rw (i, ← p, ← e)
 

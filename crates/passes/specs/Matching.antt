@@ -6,7 +6,7 @@ use mathlib.Core.Bool.{Bool, true, false, cond, _&&_}
 use lib.ListN.{length}
 use lib.Dec.{eqb}
 use Rattle.base.specs.Bytes.{same}
-use Rattle.lists.specs.Sid.{ownerRights, principalSelf, virtual}
+use Rattle.sids.specs.Sid.{ownerRights, principalSelf, virtual}
 use Rattle.records.specs.Crowd.{Member}
 use Rattle.passes.specs.declared.matching.Hit.{Hit}
 use Rattle.passes.specs.declared.matching.Hits.{Hits}

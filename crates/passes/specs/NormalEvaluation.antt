@@ -4,7 +4,7 @@ use mathlib.Core.List.{List, [], _∷_}
 use mathlib.Core.Bool.{Bool, true, false, cond, not, _&&_}
 use Rattle.base.specs.Bytes.{same}
 use Rattle.base.specs.Bits.{or, has}
-use Rattle.lists.specs.Sid.{ownerRights}
+use Rattle.sids.specs.Sid.{ownerRights}
 use Rattle.lists.specs.Acl.{Entry}
 use Rattle.records.specs.Crowd.{Member}
 use Rattle.masks.specs.KindsAndMasks.{allBits, systemSecurity}
@@ -22,7 +22,8 @@ nullDacl = record { present = false; entries = [] }
 abbrev pub listed : List Entry → Dacl
 listed es = record { present = true; entries = es }
 
--- "Only entries without flag 0x08 count" (request 102), of those that name S-1-3-4: allow or deny, any mask, matching or not
+-- "Only entries without flag 0x08 count" (request 102), of those that name S-1-3-4: allow or deny, any mask, matching or not; "a callback
+-- entry naming S-1-3-4 counts whatever its condition" (request 103)
 abbrev pub counts : Entry → Bool
 counts e = not (skipped e)
 

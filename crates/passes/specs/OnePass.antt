@@ -2,9 +2,10 @@
 -- undecided bit is not granted." The tally that takes one entry and gives the next stands in masks (TheTally).
 use Prim.Native.Nat.{ℕ}
 use mathlib.Core.List.{List, [], _∷_}
-use mathlib.Core.Bool.{Bool, false, cond}
+use mathlib.Core.Bool.{Bool, true, false, cond, _&&_, _||_}
 use lib.Dec.{eqb}
 use Rattle.base.specs.Bits.{has, bit}
+use Rattle.conditions.specs.Membership.{admits}
 use Rattle.lists.specs.Acl.{Entry}
 use Rattle.records.specs.Crowd.{Member}
 use Rattle.masks.specs.KindsAndMasks.{entryMask}
@@ -17,16 +18,24 @@ use Rattle.masks.specs.declared.tally.Tally.{Tally}
 abbrev pub skipped : Entry → Bool
 skipped e = has (e .flags) 0x08
 
--- type 0 allows, type 1 denies
+-- types 0 and 9 allow, types 1 and 10 deny
 abbrev pub allows : Entry → Bool
-allows e = eqb (e .kind) 0
+allows e = eqb (e .kind) 0 || eqb (e .kind) 9
+
+-- "Membership means matching for allow in the pass being made" (request 103), in allow and deny entries alike
+abbrev pub member : List Member → Hits → List ℕ → Bool
+member ms h w = matches true ms h w
+
+-- an entry speaks: its SID matches, and it has no condition, or a true one. One that does not speak says nothing
+abbrev pub speaks : List Member → Hits → Entry → Bool
+speaks ms h e = matches (allows e) ms h (e .sid) && admits (member ms h) (e .condition)
 
 -- the tally after an entry
 unfoldable pub taken : ℕ → List Member → Hits → Tally → Entry → Tally
 taken kind ms h t e =
     let m = entryMask kind (e .mask) in
     cond (skipped e) t
-    (cond (matches (allows e) ms h (e .sid)) (cond (allows e) (allowing t m) (denying t m)) t)
+    (cond (speaks ms h e) (cond (allows e) (allowing t m) (denying t m)) t)
 
 unfoldable pub run : ℕ → List Member → Hits → Tally → List Entry → Tally
 run kind ms h t [] = t
@@ -42,4 +51,4 @@ granted kind ms h [] i = false
 granted kind ms h (e ∷ es) i =
     let r = granted kind ms h es i in
     cond (skipped e) r
-    (cond (matches (allows e) ms h (e .sid)) (cond (bit (entryMask kind (e .mask)) i) (allows e) r) r)
+    (cond (speaks ms h e) (cond (bit (entryMask kind (e .mask)) i) (allows e) r) r)

@@ -4,7 +4,7 @@ use mathlib.Core.List.{List}
 use mathlib.Core.Bool.{Bool, false, cond, _||_}
 use Rattle.base.specs.Bits.{or}
 use Rattle.base.specs.Bytes.{same}
-use Rattle.lists.specs.Sid.{ownerRights}
+use Rattle.sids.specs.Sid.{ownerRights}
 use Rattle.lists.specs.Acl.{Entry}
 use Rattle.records.specs.Crowd.{Member}
 use Rattle.masks.specs.KindsAndMasks.{allBits}

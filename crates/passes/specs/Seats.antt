@@ -7,7 +7,7 @@ use lib.ListN.{length}
 use lib.Dec.{ltb, eqb}
 use Rattle.base.specs.Bytes.{u32At, part}
 use Rattle.base.specs.Bits.{has}
-use Rattle.lists.specs.Sid.{sidEnd}
+use Rattle.sids.specs.Sid.{sidEnd}
 use Rattle.records.specs.Crowd.{Member, width, membersAt}
 use Rattle.passes.specs.declared.seats.Seat.{Seat}
 

@@ -9,6 +9,7 @@ mod search;
 mod seats;
 mod stand;
 mod walk;
+mod weighing;
 
 pub use chains::chain_crowd;
 pub use evaluation::listed;
@@ -18,3 +19,4 @@ pub use matching::Hits;
 pub use stand::hits;
 pub use walk::Walked;
 pub use walk::pass;
+pub use weighing::admits;

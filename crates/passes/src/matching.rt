@@ -71,7 +71,7 @@ fn facing(h: Hit, allow: bool) -> bool
 pub(crate) fn virtual_matches(w: &[u8], hits: Hits, allow: bool) -> bool
     ensures { λ r. ⌜ r ≡ virtualMatches allow hits (now (w .entry)) ⌝ }
 {
-    if lists::is_owner_rights(w) {
+    if sids::is_owner_rights(w) {
         let owner = hits.owner;
         return facing(owner, allow);
     }

@@ -63,7 +63,7 @@ pub(crate) fn first_seat(s: &[u8], at: usize) -> Seat
     ensures { λ r. ⌜ r ≡ firstSeat (now (s .entry)) at ⌝ }
     ensures { λ r. ⌜ SeatLies (length (now (s .entry))) r ⌝ }
 {
-    let e = lists::sid_end(s, at);
+    let e = sids::sid_end(s, at);
     if e == 0 {
         return no_seat();
     }
@@ -82,7 +82,7 @@ pub(crate) fn seat_at(s: &[u8], at: usize, attrs: bool) -> Seat
     ensures { λ r. ⌜ r ≡ seatAt attrs (now (s .entry)) at ⌝ }
     ensures { λ r. ⌜ SeatLies (length (now (s .entry))) r ⌝ }
 {
-    let e = lists::sid_end(s, at);
+    let e = sids::sid_end(s, at);
     if e == 0 {
         return no_seat();
     }

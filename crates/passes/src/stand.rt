@@ -15,7 +15,7 @@ fn stands(listing: &[u8], heads: &[u16; 512], seats: &[u64], w: &[u8], allow: bo
     if w.len() == 0 {
         return false;
     }
-    if lists::is_virtual(w) {
+    if sids::is_virtual(w) {
         return false;
     }
     among(listing, heads, seats, w, allow)

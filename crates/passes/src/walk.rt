@@ -1,11 +1,17 @@
 // One walk over a list, which serves every evaluation.
 ghost use mathlib.Core.Path.{_≡_};
-ghost use mathlib.Core.Bool.{not, _||_};
+ghost use mathlib.Core.Bool.{not, cond, _&&_, _||_};
+ghost use mathlib.Core.List.{[]};
+ghost use Prim.Native.Nat.{_≤_};
+ghost use lib.ListN.{length};
 ghost use Rattle.base.specs.Bits.{has};
-ghost use Rattle.base.specs.Bytes.{same};
-ghost use Rattle.lists.specs.Sid.{ownerRights};
+ghost use Rattle.base.specs.Bytes.{part, same};
+ghost use Rattle.sids.specs.Sid.{ownerRights};
+ghost use Rattle.conditions.specs.Membership.{admits};
+ghost use Rattle.lists.specs.Acl.{callback};
 ghost use Rattle.lists.specs.ByLength.{entriesByLength};
 ghost use Rattle.passes.specs.Chains.{shown};
+ghost use Rattle.passes.specs.OnePass.{member};
 ghost use Rattle.passes.specs.OneWalk.{walkedOf};
 use crate::key::last;
 use crate::matching::Hits;
@@ -15,6 +21,7 @@ use crate::search::is_near;
 use crate::search::next;
 use crate::search::search_row;
 use crate::search::sits;
+use crate::weighing::admits;
 use lists::Rights;
 use masks::Tally;
 use masks::all_bits;
@@ -41,13 +48,41 @@ fn names(before: bool, w: &[u8]) -> bool
     if before {
         return true;
     }
-    lists::is_owner_rights(w)
+    sids::is_owner_rights(w)
+}
+
+// Whether an entry speaks: its SID matches (`hit`), and it has no condition, or a true one, which
+// stands from `from` to `to` of the list.
+fn speaks(
+    hit: bool,
+    kind: u8,
+    list: &[u8],
+    from: usize,
+    to: usize,
+    listing: &[u8],
+    heads: &[u16; 512],
+    seats: &[u64],
+    hits: Hits,
+) -> bool
+    requires { ⌜ (from ≤ to) × (to ≤ length (now list)) ⌝ }
+    ensures { λ r. ⌜ r ≡ (hit && admits (member
+        (shown (now (heads .entry)) (now (seats .entry)) (now (listing .entry))) hits)
+        (cond (callback kind) (part (now (list .entry)) from to) [])) ⌝ }
+{
+    if !hit {
+        return false;
+    }
+    if !lists::is_callback(kind) {
+        return true;
+    }
+    admits(&list[from..to], listing, heads, seats, hits)
 }
 
 // The pass of a list, which was judged before, against those whom the tables of chains show: each
 // entry in stored order, each against the identities that share its key, and where these stand close
 // together against all below. With the chains of a crowd they decide as the whole crowd does. `hits`
-// answers for the two virtual identities. Where all bits are decided only S-1-3-4 is looked for.
+// answers for the two virtual identities. Where all bits are decided only entries for these two are
+// taken.
 pub fn pass(
     kind: u32,
     list: &[u8],
@@ -79,11 +114,14 @@ pub fn pass(
         let from = e.from;
         let to = e.to;
         let who = &list[from..to];
-        let allow = e.kind == 0;
-        if lists::is_virtual(who) {
+        let class = e.kind;
+        let allow = (class == 0) | (class == 9);
+        if sids::is_virtual(who) {
             named = names(named, who);
             let mask = entry_mask(kind, e.mask);
-            t = t.step(virtual_matches(who, hits, allow), allow, mask);
+            let hit = virtual_matches(who, hits, allow);
+            let spoken = speaks(hit, class, list, to, place, listing, heads, seats, hits);
+            t = t.step(spoken, allow, mask);
             continue 'entries;
         }
         if t.decided.0 == all.0 {
@@ -114,7 +152,8 @@ pub fn pass(
             }
             n = after;
         };
-        t = t.step(hit, allow, mask);
+        let spoken = speaks(hit, class, list, to, place, listing, heads, seats, hits);
+        t = t.step(spoken, allow, mask);
     }
     let allowed = t.allowed;
     Walked { allowed, named }

@@ -1,7 +1,8 @@
 -- What an accepted policy is. In order: a rule that is well shaped (shaped-rule), and found by its sections alone (step-same); plain lists
--- (acl-plain, plain-rule); the rules of an accepted policy: each is there and has plain lists (sound-rules), there are as many as the
--- heading says (sound-count), and they are found by the lengths of their sections alone (sound-by-lengths). Assumes nothing.
-use Prim.Native.Nat.{ℕ, zero, suc, _-_}
+-- and a plain applies_to (acl-plain, plain-rule); the rules of an accepted policy: each is there and has plain lists (sound-rules), there
+-- are as many as the heading says (sound-count), and they are found by the lengths of their sections alone (sound-by-lengths). Assumes
+-- nothing.
+use Prim.Native.Nat.{ℕ, zero, suc}
 use mathlib.Core.Path.{_≡_, refl, sym, ap, _∙_}
 use mathlib.Core.List.{List, [], _∷_}
 use mathlib.Core.Bool.{Bool, true, false, cond, _||_}
@@ -15,61 +16,58 @@ use Rattle.base.proofs.WordsLaws.{u32-at-out}
 use Rattle.lists.proofs.ByLengthLaws.{entries-by-length, entries-by-none}
 use Rattle.lists.specs.Acl.{aclEnd, scanOf, entriesOf}
 use Rattle.lists.specs.ByLength.{entriesByLength}
-use Rattle.lists.specs.declared.acl.Scan.{Scan}
-use Rattle.lists.specs.declared.acl.Scan.the-variants.{Broken, Foreign, Plain}
-use Rattle.policy.specs.Policy.{sectionAt, bytesOf, aclSection, maybeAcl, broken, alien, noRule, ruleOf, ruleAt}
+use Rattle.conditions.specs.Scanning.{isBroken, isForeign}
+use Rattle.conditions.specs.declared.scan.Scan.{Scan}
+use Rattle.conditions.specs.declared.scan.Scan.the-variants.{Broken, Foreign, Plain}
+use Rattle.policy.specs.Policy.{sectionAt, bytesOf, aclSection, maybeAcl, appliesSection, noRule, ruleOf, ruleAt}
 use Rattle.policy.specs.Policy.{rulesShaped, rulesUnread, standing, standingOf}
 use Rattle.policy.specs.Rules.{Lists, listsOf, rulesAt, rulesOf}
 use Rattle.policy.specs.ByLengths.{ruleByLengths, listsByLengths, rulesByLengthsAt, rulesByLengths}
 use Rattle.policy.specs.declared.sections.Section.{Section}
 use Rattle.policy.specs.declared.one_rule.Rule.{Rule}
 use Rattle.policy.specs.declared.shape.Standing.the-variants.{Sound, Misshapen}
-use Rattle.policy.proofs.OneRuleSteps.{listIn, maybeIn, made, rule-unfit, rule-long, rule-dacl, rule-sacl}
+use Rattle.policy.proofs.OneRuleSteps.{appliesIn, listIn, maybeIn, made, rule-applies, rule-dacl, rule-sacl}
 use Rattle.policy.proofs.OneRuleSteps.{rule-staged, rule-last, rule-whole}
 use Rattle.policy.proofs.PolicySteps.{standing-long, standing-short, standing-other, standing-many, standing-rules}
 
 -- ---- a rule that is well shaped
 
--- of a rule that is not misshapen: its access lists are not broken, and it is made of its sections
+-- of a rule that is not misshapen: its applies_to and its access lists are not broken, and it is made of its sections
 pub record Shaped (s : List ℕ) (applies dacl sacl staged last : Section) : Type 0 where
-  pub effective : broken (listIn s dacl) ≡ false
-  pub stages : broken (maybeIn true s staged) ≡ false
-  pub is : ruleOf s applies dacl sacl staged last ≡ made s applies dacl sacl staged last (listIn s dacl) (maybeIn true s staged)
+  pub fine : isBroken (appliesIn s applies) ≡ false
+  pub effective : isBroken (listIn s dacl) ≡ false
+  pub stages : isBroken (maybeIn true s staged) ≡ false
+  pub is : ruleOf s applies dacl sacl staged last
+      ≡ made s applies dacl sacl staged last (appliesIn s applies) (listIn s dacl) (maybeIn true s staged)
 
 module _ (s : List ℕ) (applies dacl sacl staged last : Section) where
   pub shaped-rule : (ruleOf s applies dacl sacl staged last .next ≡ 0 → ⊥) → Shaped s applies dacl sacl staged last
   shaped-rule h =
       go
-      (eqb (applies .to) 0) refl
-      (ltb 65536 (applies .to - applies .from)) refl
-      (broken (listIn s dacl)) refl
-      (broken (maybeIn false s sacl)) refl
-      (broken (maybeIn true s staged)) refl
-      (broken (maybeIn false s last)) refl
+      (isBroken (appliesIn s applies)) refl
+      (isBroken (listIn s dacl)) refl
+      (isBroken (maybeIn false s sacl)) refl
+      (isBroken (maybeIn true s staged)) refl
+      (isBroken (maybeIn false s last)) refl
     where
       no : ruleOf s applies dacl sacl staged last ≡ noRule → ⊥
       no e = h (ap (λ (r : Rule). r .next) e)
 
-      go : (a : Bool) → eqb (applies .to) 0 ≡ a → (b : Bool) → ltb 65536 (applies .to - applies .from) ≡ b →
-          (d : Bool) → broken (listIn s dacl) ≡ d → (x : Bool) → broken (maybeIn false s sacl) ≡ x →
-          (t : Bool) → broken (maybeIn true s staged) ≡ t → (y : Bool) → broken (maybeIn false s last) ≡ y →
+      go : (a : Bool) → isBroken (appliesIn s applies) ≡ a →
+          (d : Bool) → isBroken (listIn s dacl) ≡ d → (x : Bool) → isBroken (maybeIn false s sacl) ≡ x →
+          (t : Bool) → isBroken (maybeIn true s staged) ≡ t → (y : Bool) → isBroken (maybeIn false s last) ≡ y →
           Shaped s applies dacl sacl staged last
-      go true ea b eb d ed x ex t et y ey = absurd (no (rule-unfit s applies dacl sacl staged last (eqb-true _ _ ea)))
-      go false ea true eb d ed x ex t et y ey =
-          absurd (no (rule-long s applies dacl sacl staged last (eqb-false _ _ ea) (ltb-true _ _ eb)))
-      go false ea false eb true ed x ex t et y ey =
-          absurd (no (rule-dacl s applies dacl sacl staged last (eqb-false _ _ ea) (ltb-false _ _ eb) ed))
-      go false ea false eb false ed true ex t et y ey =
-          absurd (no (rule-sacl s applies dacl sacl staged last (eqb-false _ _ ea) (ltb-false _ _ eb) ed ex))
-      go false ea false eb false ed false ex true et y ey =
-          absurd (no (rule-staged s applies dacl sacl staged last (eqb-false _ _ ea) (ltb-false _ _ eb) ed ex et))
-      go false ea false eb false ed false ex false et true ey =
-          absurd (no (rule-last s applies dacl sacl staged last (eqb-false _ _ ea) (ltb-false _ _ eb) ed ex et ey))
-      go false ea false eb false ed false ex false et false ey =
+      go true ea d ed x ex t et y ey = absurd (no (rule-applies s applies dacl sacl staged last ea))
+      go false ea true ed x ex t et y ey = absurd (no (rule-dacl s applies dacl sacl staged last ea ed))
+      go false ea false ed true ex t et y ey = absurd (no (rule-sacl s applies dacl sacl staged last ea ed ex))
+      go false ea false ed false ex true et y ey = absurd (no (rule-staged s applies dacl sacl staged last ea ed ex et))
+      go false ea false ed false ex false et true ey = absurd (no (rule-last s applies dacl sacl staged last ea ed ex et ey))
+      go false ea false ed false ex false et false ey =
           record {
+            fine = ea;
             effective = ed;
             stages = et;
-            is = rule-whole s applies dacl sacl staged last (eqb-false _ _ ea) (ltb-false _ _ eb) ed ex et ey;
+            is = rule-whole s applies dacl sacl staged last ea ed ex et ey;
           }
 
 -- the sections alone find the same rule
@@ -86,8 +84,8 @@ step-same s at h =
 
 -- ---- plain lists
 
--- a list that is neither broken nor alien
-plain-is : (x : Scan) → broken x ≡ false → alien x ≡ false → x ≡ Plain
+-- a list that is neither broken nor foreign
+plain-is : (x : Scan) → isBroken x ≡ false → isForeign x ≡ false → x ≡ Plain
 plain-is Broken e f = let z : _≡_ {A = ℕ} 0 1 = cc in absurd (omega arith)
 plain-is Foreign e f = let z : _≡_ {A = ℕ} 0 1 = cc in absurd (omega arith)
 plain-is Plain e f = refl
@@ -107,9 +105,10 @@ acl-plain deep l h = go (eqb (aclEnd l 0) 0) (eqb (aclEnd l 0) (length l)) refl 
     go false true e f = (eqb-true _ _ e, f)
     go false false e f = let z : _≡_ {A = ℕ} 0 1 = cc in absurd (omega arith)
 
--- a rule that is there, with plain lists only
+-- a rule that is there, with a plain applies_to and plain lists only
 pub record PlainRule (s : List ℕ) (r : Rule) : Type 0 where
   pub there : r .next ≡ 0 → ⊥
+  pub applies : appliesSection (bytesOf s (r .applies)) ≡ Plain
   pub effective : aclSection true (bytesOf s (r .effective)) ≡ Plain
   pub staged : maybeAcl true (bytesOf s (r .staged)) ≡ Plain
 
@@ -123,12 +122,15 @@ plain-rule s at h u =
     let f = shaped-rule s applies dacl sacl staged (sectionAt s (staged .to)) h in
     let o =
     neither
-    (ltb (applies .from) (applies .to) || alien (listIn s dacl))
-    (alien (maybeIn true s staged))
+    (isForeign (appliesIn s applies) || isForeign (listIn s dacl))
+    (isForeign (maybeIn true s staged))
     (ap (λ (r : Rule). r .unread) (sym (f .is)) ∙ u) in
-    let a = neither (ltb (applies .from) (applies .to)) (alien (listIn s dacl)) (o .0) in
+    let a = neither (isForeign (appliesIn s applies)) (isForeign (listIn s dacl)) (o .0) in
     record {
       there = h;
+      applies =
+          ap (λ (r : Rule). appliesSection (bytesOf s (r .applies))) (f .is)
+          ∙ plain-there (eqb (applies .to) 0) _ (plain-is (appliesIn s applies) (f .fine) (a .0));
       effective =
           ap (λ (r : Rule). aclSection true (bytesOf s (r .effective))) (f .is)
           ∙ plain-there (eqb (dacl .to) 0) _ (plain-is (listIn s dacl) (f .effective) (a .1));

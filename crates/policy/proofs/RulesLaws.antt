@@ -16,9 +16,9 @@ use Rattle.masks.specs.KindsAndMasks.{systemSecurity}
 use Rattle.passes.specs.OnePass.{passed}
 use Rattle.passes.specs.NormalEvaluation.{listed, namesOwner, privilegesGive, normalOf}
 use Rattle.passes.proofs.OnePassLaws.{passed-lt}
-use Rattle.passes.proofs.CrowdsLaws.{Alike, normal-alike}
+use Rattle.passes.proofs.CrowdsLaws.{Alike, admits-alike, normal-alike}
 use Rattle.passes.specs.declared.matching.Hits.{Hits}
-use Rattle.policy.specs.Rules.{Lists, resultOf, ruled, judgedBy, ruledFrom, ruledBy, everyRule, someStage}
+use Rattle.policy.specs.Rules.{Lists, resultOf, ruled, appliesTo, narrowedBy, judgedBy, ruledFrom, ruledBy, everyRule, someStage}
 use Rattle.policy.specs.declared.rules.Ruled.{Ruled}
 
 -- ---- tests
@@ -45,14 +45,28 @@ module _ (kind : ℕ) (ms : List Member) (h : Hits) (p : ℕ) where
 
   -- ---- bit by bit
 
+  left-step : (st : Ruled) (r : Lists) (i : ℕ) →
+      bit (judgedBy kind ms h p st r .left .0) i
+      ≡ (bit (st .left .0) i && cond (appliesTo ms h r) (bit (resultOf kind ms h p (r .effective)) i) true)
+  unfolding judgedBy narrowedBy
+  left-step st r i = go (appliesTo ms h r)
+    where
+      e : ℕ
+      e = resultOf kind ms h p (r .effective)
+
+      go : (b : Bool) → bit (cond b (narrowedBy kind ms h p st r) st .left .0) i ≡ (bit (st .left .0) i && cond b (bit e i) true)
+      go true = base.and-bit (st .left .0) e i
+      go false = sym (and-true (bit (st .left .0) i))
+
   pub left-bit : (st : Ruled) (rs : List Lists) (i : ℕ) →
       bit (ruledFrom kind ms h p st rs .left .0) i ≡ (bit (st .left .0) i && everyRule kind ms h p rs i)
-  unfolding ruledFrom everyRule judgedBy
+  unfolding ruledFrom everyRule
   left-bit st [] i = sym (and-true (bit (st .left .0) i))
   left-bit st (r ∷ rs) i =
       left-bit (judgedBy kind ms h p st r) rs i
-      ∙ ap (λ (b : Bool). b && everyRule kind ms h p rs i) (base.and-bit (st .left .0) (resultOf kind ms h p (r .effective)) i)
-      ∙ and-assoc (bit (st .left .0) i) (bit (resultOf kind ms h p (r .effective)) i) (everyRule kind ms h p rs i)
+      ∙ ap (λ (b : Bool). b && everyRule kind ms h p rs i) (left-step st r i)
+      ∙ and-assoc (bit (st .left .0) i) (cond (appliesTo ms h r) (bit (resultOf kind ms h p (r .effective)) i) true)
+      (everyRule kind ms h p rs i)
 
   pub left-bit-all : (rs : List Lists) (i : ℕ) → i < 32 → bit (ruledBy kind ms h p rs .left .0) i ≡ everyRule kind ms h p rs i
   left-bit-all rs i l =
@@ -62,9 +76,10 @@ module _ (kind : ℕ) (ms : List Member) (h : Hits) (p : ℕ) where
   differ-step : (st : Ruled) (r : Lists) (i : ℕ) (q : Bool) →
       (bit (judgedBy kind ms h p st r .differ .0) i || q)
       ≡ (bit (st .differ .0) i
-      || cond (r .stages) (xor (bit (resultOf kind ms h p (r .effective)) i) (bit (resultOf kind ms h p (r .staged)) i) || q) q)
-  unfolding judgedBy
-  differ-step st r i q = go (r .stages)
+      || cond (appliesTo ms h r && r .stages)
+      (xor (bit (resultOf kind ms h p (r .effective)) i) (bit (resultOf kind ms h p (r .staged)) i) || q) q)
+  unfolding judgedBy narrowedBy
+  differ-step st r i q = go (appliesTo ms h r) (r .stages)
     where
       e : ℕ
       e = resultOf kind ms h p (r .effective)
@@ -72,15 +87,16 @@ module _ (kind : ℕ) (ms : List Member) (h : Hits) (p : ℕ) where
       t : ℕ
       t = resultOf kind ms h p (r .staged)
 
-      go : (b : Bool) →
-          (bit (cond b (or (st .differ .0) (differ e t)) (st .differ .0)) i || q)
-          ≡ (bit (st .differ .0) i || cond b (xor (bit e i) (bit t i) || q) q)
-      go true =
+      go : (a b : Bool) →
+          (bit (cond a (ruled (and (st .left .0) e) (cond b (or (st .differ .0) (differ e t)) (st .differ .0))) st .differ .0) i || q)
+          ≡ (bit (st .differ .0) i || cond (a && b) (xor (bit e i) (bit t i) || q) q)
+      go true true =
           ap
           (λ (b : Bool). b || q)
           (base.or-bit (st .differ .0) (differ e t) i ∙ ap (λ (b : Bool). bit (st .differ .0) i || b) (base.differ-bit e t i))
           ∙ or-assoc (bit (st .differ .0) i) (xor (bit e i) (bit t i)) q
-      go false = refl
+      go true false = refl
+      go false b = refl
 
   pub differ-bit : (st : Ruled) (rs : List Lists) (i : ℕ) →
       bit (ruledFrom kind ms h p st rs .differ .0) i ≡ (bit (st .differ .0) i || someStage kind ms h p rs i)
@@ -101,15 +117,19 @@ module _ (kind : ℕ) (ms : List Member) (h : Hits) (p : ℕ) where
       ∙ e in
       ap (λ (x : Ruled). bit (x .left .0) i) (ruled-append st rs qs)
       ∙ left-bit before qs i
-      ∙ and-skip (bit (before .left .0) i) (bit (resultOf kind ms h p (r .effective)) i) (everyRule kind ms h p qs i) d
+      ∙ and-skip (bit (before .left .0) i) (cond (appliesTo ms h r) (bit (resultOf kind ms h p (r .effective)) i) true)
+      (everyRule kind ms h p qs i) d
 
   -- ---- masks of 32 bits
 
   left-le : (st : Ruled) (rs : List Lists) → ruledFrom kind ms h p st rs .left .0 ≤ st .left .0
-  unfolding ruledFrom judgedBy
+  unfolding ruledFrom judgedBy narrowedBy
   left-le st [] = omega arith
-  left-le st (r ∷ rs) =
-      omega (arith, left-le (judgedBy kind ms h p st r) rs, B.and-le-l (st .left .0) (resultOf kind ms h p (r .effective)))
+  left-le st (r ∷ rs) = omega (arith, left-le (judgedBy kind ms h p st r) rs, go (appliesTo ms h r))
+    where
+      go : (b : Bool) → cond b (narrowedBy kind ms h p st r) st .left .0 ≤ st .left .0
+      go true = B.and-le-l (st .left .0) (resultOf kind ms h p (r .effective))
+      go false = omega arith
 
   pub ruled-left-lt : (rs : List Lists) → ruledBy kind ms h p rs .left .0 < 2 ^ 32
   ruled-left-lt rs = omega (arith, left-le (ruled everything 0) rs)
@@ -124,9 +144,9 @@ module _ (kind : ℕ) (ms : List Member) (h : Hits) (p : ℕ) where
 
   pub ruled-differ-lt : ((es : List Entry) → resultOf kind ms h p es < 2 ^ 32) → (st : Ruled) (rs : List Lists) → st .differ .0 < 2 ^ 32 →
       ruledFrom kind ms h p st rs .differ .0 < 2 ^ 32
-  unfolding ruledFrom judgedBy
+  unfolding ruledFrom judgedBy narrowedBy
   ruled-differ-lt f st [] l = l
-  ruled-differ-lt f st (r ∷ rs) l = ruled-differ-lt f (judgedBy kind ms h p st r) rs (go (r .stages))
+  ruled-differ-lt f st (r ∷ rs) l = ruled-differ-lt f (judgedBy kind ms h p st r) rs (go (appliesTo ms h r) (r .stages))
     where
       e : ℕ
       e = resultOf kind ms h p (r .effective)
@@ -134,17 +154,23 @@ module _ (kind : ℕ) (ms : List Member) (h : Hits) (p : ℕ) where
       t : ℕ
       t = resultOf kind ms h p (r .staged)
 
-      go : (b : Bool) → cond b (or (st .differ .0) (differ e t)) (st .differ .0) < 2 ^ 32
-      go true = B.or-lt 32 (st .differ .0) (differ e t) l (B.xor-lt 32 e t (f (r .effective)) (f (r .staged)))
-      go false = l
+      go : (a b : Bool) →
+          cond a (ruled (and (st .left .0) e) (cond b (or (st .differ .0) (differ e t)) (st .differ .0))) st .differ .0 < 2 ^ 32
+      go true true = B.or-lt 32 (st .differ .0) (differ e t) l (B.xor-lt 32 e t (f (r .effective)) (f (r .staged)))
+      go true false = l
+      go false b = l
 
 -- ---- crowds among whom the same SIDs match
 
 module _ (ms ns : List Member) (same : Alike ms ns) (kind : ℕ) (h : Hits) (p : ℕ) where
   judged-alike : (st : Ruled) (r : Lists) → judgedBy kind ms h p st r ≡ judgedBy kind ns h p st r
-  unfolding judgedBy
+  unfolding judgedBy narrowedBy
   judged-alike st r =
-      rw (normal-alike ms ns same kind h p (listed (r .effective)), normal-alike ms ns same kind h p (listed (r .staged)))
+      rw (
+        admits-alike ms ns same h (r .applies),
+        normal-alike ms ns same kind h p (listed (r .effective)),
+        normal-alike ms ns same kind h p (listed (r .staged)),
+      )
 
   pub ruled-alike : (st : Ruled) (rs : List Lists) → ruledFrom kind ms h p st rs ≡ ruledFrom kind ns h p st rs
   unfolding ruledFrom

@@ -1,5 +1,6 @@
 -- What the rules of a policy leave, by each step of the code. For the functions of `rules`.
--- In order: a rule by its sections (step-read), one result (result-is), one rule more (judged-..), the walk over all rules (Left, left-..).
+-- In order: a rule by its sections (step-read), one result (result-is), one rule more (narrowed-.., judged-..), the walk over all rules
+-- (Left, left-..).
 -- Not here: what all rules come to, RulesLaws. Assumes nothing.
 use Prim.Native.Nat.{ℕ, suc, _+_, _-_, _<_, _≤_}
 use mathlib.Core.Path.{_≡_, _∙_}
@@ -15,7 +16,7 @@ use Rattle.passes.specs.OneWalk.{walkedOf, normalBy}
 use Rattle.passes.specs.declared.matching.Hits.{Hits}
 use Rattle.passes.specs.declared.walk.Walked.{Walked}
 use Rattle.policy.specs.Policy.{sectionAt}
-use Rattle.policy.specs.Rules.{Lists, resultOf, ruled, judgedBy, ruledFrom}
+use Rattle.policy.specs.Rules.{Lists, resultOf, ruled, appliesTo, narrowedBy, judgedBy, ruledFrom}
 use Rattle.policy.specs.ByLengths.{ruleByLengths, listsByLengths, rulesByLengthsAt}
 use Rattle.policy.specs.declared.sections.Section.{Section}
 use Rattle.policy.specs.declared.one_rule.Rule.{Rule}
@@ -24,7 +25,7 @@ use Rattle.policy.specs.declared.rules.Ruled.{Ruled}
 -- a rule, from its sections as the code reads them
 pub step-read : (s : List ℕ) (at : ℕ) (applies dacl sacl staged last : Section) → applies ≡ sectionAt s at →
     dacl ≡ sectionAt s (applies .to) → sacl ≡ sectionAt s (dacl .to) → staged ≡ sectionAt s (sacl .to) → last ≡ sectionAt s (staged .to) →
-    _≡_ {A = Rule} (record { next = last .to; unread = false; effective = dacl; staged = staged }) (ruleByLengths s at)
+    _≡_ {A = Rule} (record { next = last .to; unread = false; applies = applies; effective = dacl; staged = staged }) (ruleByLengths s at)
 unfolding ruleByLengths
 step-read s at applies dacl sacl staged last a d x t y = rw (y, t, x, d, a)
 
@@ -37,14 +38,24 @@ module _ (kind : ℕ) (ms : List Member) (h : Hits) (p : ℕ) where
 
   -- one rule more
   module _ (st : Ruled) (r : Lists) (e : ℕ) (effective : e ≡ resultOf kind ms h p (r .effective)) where
-    pub judged-plain : r .stages ≡ false → ruled (and (st .left .0) e) (st .differ .0) ≡ judgedBy kind ms h p st r
-    unfolding judgedBy
-    judged-plain t = rw (t, effective)
+    pub narrowed-plain : r .stages ≡ false → ruled (and (st .left .0) e) (st .differ .0) ≡ narrowedBy kind ms h p st r
+    unfolding narrowedBy
+    narrowed-plain t = rw (t, effective)
 
-    pub judged-staged : (q : ℕ) → q ≡ resultOf kind ms h p (r .staged) → r .stages ≡ true →
-        ruled (and (st .left .0) e) (or (st .differ .0) (differ e q)) ≡ judgedBy kind ms h p st r
+    pub narrowed-staged : (q : ℕ) → q ≡ resultOf kind ms h p (r .staged) → r .stages ≡ true →
+        ruled (and (st .left .0) e) (or (st .differ .0) (differ e q)) ≡ narrowedBy kind ms h p st r
+    unfolding narrowedBy
+    narrowed-staged q staged t = rw (t, effective, staged)
+
+  -- where it applies, and where not
+  module _ (st : Ruled) (r : Lists) where
+    pub judged-applies : appliesTo ms h r ≡ true → judgedBy kind ms h p st r ≡ narrowedBy kind ms h p st r
     unfolding judgedBy
-    judged-staged q staged t = rw (t, effective, staged)
+    judged-applies t = rw t
+
+    pub judged-passed : appliesTo ms h r ≡ false → judgedBy kind ms h p st r ≡ st
+    unfolding judgedBy
+    judged-passed t = rw t
 
   -- ---- the walk over all rules
 

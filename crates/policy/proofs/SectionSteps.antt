@@ -1,4 +1,5 @@
--- What a section is and what the list in it is, by each test in its order: section-.., acl-.., maybe-... For the functions of `sections`.
+-- What a section is and what the list in it is, by each test in its order: section-.., acl-.., maybe-.., applies-... For the functions of
+-- `sections`.
 -- Assumes nothing.
 use Prim.Native.Nat.{ℕ, _+_, _<_, _≤_}
 use mathlib.Core.Path.{_≡_, sym, ap, _∙_}
@@ -8,9 +9,10 @@ use native.Mathlib.Omega.{arith}
 use lib.ListN.{length}
 use borrow.Author.Tests.{lt-ltb, le-ltb, eq-eqb, ne-eqb}
 use Rattle.base.specs.Bytes.{u32At}
+use Rattle.conditions.specs.Condition.{shape}
 use Rattle.lists.specs.Acl.{aclEnd, scanOf}
-use Rattle.lists.specs.declared.acl.Scan.the-variants.{Broken, Plain}
-use Rattle.policy.specs.Policy.{section, sectionAt, Lies, aclSection, maybeAcl}
+use Rattle.conditions.specs.declared.scan.Scan.the-variants.{Broken, Plain}
+use Rattle.policy.specs.Policy.{section, sectionAt, Lies, aclSection, maybeAcl, appliesSection}
 use Rattle.policy.specs.declared.sections.Section.{Section}
 
 -- ---- a section
@@ -58,3 +60,18 @@ module _ (deep : Bool) (l : List ℕ) where
   pub maybe-there : (length l ≡ 0 → ⊥) → maybeAcl deep l ≡ aclSection deep l
   unfolding maybeAcl
   maybe-there h = rw (ne-eqb (length l) 0 h)
+
+-- ---- an applies_to
+
+module _ (l : List ℕ) where
+  pub applies-empty : length l ≡ 0 → appliesSection l ≡ Plain
+  unfolding appliesSection
+  applies-empty h = rw (eq-eqb (length l) 0 h)
+
+  pub applies-long : (length l ≡ 0 → ⊥) → 65536 < length l → appliesSection l ≡ Broken
+  unfolding appliesSection
+  applies-long f h = rw (ne-eqb (length l) 0 f, lt-ltb 65536 (length l) h)
+
+  pub applies-judged : (length l ≡ 0 → ⊥) → length l ≤ 65536 → appliesSection l ≡ shape l
+  unfolding appliesSection
+  applies-judged f h = rw (ne-eqb (length l) 0 f, le-ltb 65536 (length l) h)

@@ -17,12 +17,13 @@ ruleByLengths s at =
     let dacl = sectionAt s (applies .to) in
     let sacl = sectionAt s (dacl .to) in
     let staged = sectionAt s (sacl .to) in
-    record { next = sectionAt s (staged .to) .to; unread = false; effective = dacl; staged = staged }
+    record { next = sectionAt s (staged .to) .to; unread = false; applies = applies; effective = dacl; staged = staged }
 
 -- what a rule says, its entries found by their lengths
 abbrev pub listsByLengths : List ℕ → Rule → Lists
 listsByLengths s r =
     record {
+      applies = bytesOf s (r .applies);
       effective = entriesByLength (bytesOf s (r .effective));
       stages = ltb (r .staged .from) (r .staged .to);
       staged = entriesByLength (bytesOf s (r .staged));

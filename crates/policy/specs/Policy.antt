@@ -1,15 +1,17 @@
 -- "Policy (source 004): at most 262,144 bytes; version 1; rule count u32, at most 256; per rule five sections with a u32 length:
 -- applies_to (at most 65,536), effective DACL (not empty), effective SACL, staged DACL, staged SACL. An ACL section's length equals its
 -- ACL's size. Nothing follows. An empty policy means none."
-use Prim.Native.Nat.{ℕ, zero, suc, _+_, _-_, _≤_}
+use Prim.Native.Nat.{ℕ, zero, suc, _+_, _≤_}
 use mathlib.Core.List.{List}
 use mathlib.Core.Bool.{Bool, true, false, cond, _||_}
 use lib.ListN.{length}
 use lib.Dec.{ltb, eqb}
 use Rattle.base.specs.Bytes.{byteAt, u32At, part}
+use Rattle.conditions.specs.Scanning.{isBroken, isForeign}
+use Rattle.conditions.specs.Condition.{shape}
 use Rattle.lists.specs.Acl.{aclEnd, scanOf}
-use Rattle.lists.specs.declared.acl.Scan.{Scan}
-use Rattle.lists.specs.declared.acl.Scan.the-variants.{Broken, Foreign, Plain}
+use Rattle.conditions.specs.declared.scan.Scan.{Scan}
+use Rattle.conditions.specs.declared.scan.Scan.the-variants.{Broken, Plain}
 use Rattle.policy.specs.declared.sections.Section.{Section}
 use Rattle.policy.specs.declared.one_rule.Rule as rule
 use Rattle.policy.specs.declared.one_rule.Rule.{Rule}
@@ -48,44 +50,40 @@ aclSection deep l = let e = aclEnd l 0 in cond (eqb e 0) Broken (cond (eqb e (le
 unfoldable pub maybeAcl : Bool → List ℕ → Scan
 maybeAcl deep l = cond (eqb (length l) 0) Plain (aclSection deep l)
 
-abbrev pub broken : Scan → Bool
-broken Broken = true
-broken Foreign = false
-broken Plain = false
-
-abbrev pub alien : Scan → Bool
-alien Broken = false
-alien Foreign = true
-alien Plain = false
+-- "applies_to (at most 65,536)": no bytes, or an expression in request 103's profile
+unfoldable pub appliesSection : List ℕ → Scan
+appliesSection l = cond (eqb (length l) 0) Plain (cond (ltb 65536 (length l)) Broken (shape l))
 
 -- ---- a rule
 
 -- misshapen: the place after it is 0
 abbrev pub noRule : Rule
-noRule = record { next = 0; unread = false; effective = section 0 0; staged = section 0 0 }
+noRule = record { next = 0; unread = false; applies = section 0 0; effective = section 0 0; staged = section 0 0 }
 
 -- a rule lies within the bytes, misshapen or not
 abbrev pub Placed : List ℕ → Rule → Type 0
-Placed s r = (r .next ≤ length s) × (Lies s (r .effective) × Lies s (r .staged))
+Placed s r = (r .next ≤ length s) × (Lies s (r .applies) × (Lies s (r .effective) × Lies s (r .staged)))
 
--- five sections, of which applies_to is at most 65,536 bytes
+-- five sections; "Broken expressions give 6 or 9, other tokens 8 or 10" (request 103), in applies_to as in the lists
 unfoldable pub ruleOf : List ℕ → Section → Section → Section → Section → Section → Rule
 ruleOf s applies dacl sacl staged stagedSacl =
+    let appliesScan = appliesSection (bytesOf s applies) in
     let effectiveScan = aclSection true (bytesOf s dacl) in
     let stagedScan = maybeAcl true (bytesOf s staged) in
     cond (eqb (applies .to) 0) noRule
-    (cond (ltb 65536 (applies .to - applies .from)) noRule
+    (cond (isBroken appliesScan) noRule
     (cond (eqb (dacl .to) 0) noRule
-    (cond (broken effectiveScan) noRule
+    (cond (isBroken effectiveScan) noRule
     (cond (eqb (sacl .to) 0) noRule
-    (cond (broken (maybeAcl false (bytesOf s sacl))) noRule
+    (cond (isBroken (maybeAcl false (bytesOf s sacl))) noRule
     (cond (eqb (staged .to) 0) noRule
-    (cond (broken stagedScan) noRule
+    (cond (isBroken stagedScan) noRule
     (cond (eqb (stagedSacl .to) 0) noRule
-    (cond (broken (maybeAcl false (bytesOf s stagedSacl))) noRule
+    (cond (isBroken (maybeAcl false (bytesOf s stagedSacl))) noRule
     (record {
       next = stagedSacl .to;
-      unread = ltb (applies .from) (applies .to) || alien effectiveScan || alien stagedScan;
+      unread = isForeign appliesScan || isForeign effectiveScan || isForeign stagedScan;
+      applies = applies;
       effective = dacl;
       staged = staged;
     }))))))))))
@@ -105,7 +103,8 @@ unfoldable pub rulesShaped : List ℕ → ℕ → ℕ → Bool
 rulesShaped s zero at = eqb at (length s)
 rulesShaped s (suc n) at = let r = ruleAt s at in let q = rulesShaped s n (r .next) in cond (eqb (r .next) 0) false q
 
--- number 10: "policy has an applies_to, or a rule's effective or staged DACL an entry type other than 0 or 1"
+-- number 10: "a rule's effective or staged DACL an entry type other than 0 or 1", 9 or 10 since request 103, or an other token in a
+-- condition of these or in an applies_to. (An applies_to is no longer 10 by itself.)
 unfoldable pub rulesUnread : List ℕ → ℕ → ℕ → Bool
 rulesUnread s zero at = false
 rulesUnread s (suc n) at = let r = ruleAt s at in let q = rulesUnread s n (r .next) in cond (r .unread) true q

@@ -7,8 +7,10 @@ use lib.ListN.{length}
 use lib.Dec.{ltb, eqb}
 use Rattle.base.specs.Bytes.{u32At}
 use Rattle.base.specs.Bits.{and, or, differ, bit}
+use Rattle.conditions.specs.Membership.{admits}
 use Rattle.lists.specs.Acl.{Entry, entriesOf}
 use Rattle.records.specs.Crowd.{Member}
+use Rattle.passes.specs.OnePass.{member}
 use Rattle.passes.specs.NormalEvaluation.{normalOf, listed}
 use Rattle.passes.specs.Confinement.{everything}
 use Rattle.passes.specs.declared.matching.Hits.{Hits}
@@ -16,8 +18,9 @@ use Rattle.policy.specs.Policy.{bytesOf, ruleAt}
 use Rattle.policy.specs.declared.one_rule.Rule.{Rule}
 use Rattle.policy.specs.declared.rules.Ruled.{Ruled}
 
--- what a rule says: its effective list, whether it has a staged one, and that
+-- what a rule says: to whom it applies, its effective list, whether it has a staged one, and that
 pub record Lists : Type 0 where
+  pub applies : List ℕ
   pub effective : List Entry
   pub stages : Bool
   pub staged : List Entry
@@ -25,6 +28,7 @@ pub record Lists : Type 0 where
 abbrev pub listsOf : List ℕ → Rule → Lists
 listsOf s r =
     record {
+      applies = bytesOf s (r .applies);
       effective = entriesOf (bytesOf s (r .effective));
       stages = ltb (r .staged .from) (r .staged .to);
       staged = entriesOf (bytesOf s (r .staged));
@@ -47,12 +51,20 @@ resultOf kind ms h p es = normalOf kind ms h p (listed es)
 abbrev pub ruled : ℕ → ℕ → Ruled
 ruled l d = record { left = record { 0 = l }; differ = record { 0 = d } }
 
--- one rule more
-unfoldable pub judgedBy : ℕ → List Member → Hits → ℕ → Ruled → Lists → Ruled
-judgedBy kind ms h p st r =
+-- "applies_to uses the normal identities" (request 103): a rule applies if it has no condition, or a true one
+abbrev pub appliesTo : List Member → Hits → Lists → Bool
+appliesTo ms h r = admits (member ms h) (r .applies)
+
+-- one rule more that applies
+unfoldable pub narrowedBy : ℕ → List Member → Hits → ℕ → Ruled → Lists → Ruled
+narrowedBy kind ms h p st r =
     let e = resultOf kind ms h p (r .effective) in
     let q = resultOf kind ms h p (r .staged) in
     ruled (and (st .left .0) e) (cond (r .stages) (or (st .differ .0) (differ e q)) (st .differ .0))
+
+-- one rule more. "A rule that does not apply neither narrows nor flags."
+unfoldable pub judgedBy : ℕ → List Member → Hits → ℕ → Ruled → Lists → Ruled
+judgedBy kind ms h p st r = let n = narrowedBy kind ms h p st r in cond (appliesTo ms h r) n st
 
 unfoldable pub ruledFrom : ℕ → List Member → Hits → ℕ → Ruled → List Lists → Ruled
 ruledFrom kind ms h p st [] = st
@@ -62,15 +74,17 @@ ruledFrom kind ms h p st (r ∷ rs) = ruledFrom kind ms h p (judgedBy kind ms h 
 abbrev pub ruledBy : ℕ → List Member → Hits → ℕ → List Lists → Ruled
 ruledBy kind ms h p rs = ruledFrom kind ms h p (ruled everything 0) rs
 
--- the same, bit by bit, without a state: a bit is left if every rule's effective result has it
+-- the same, bit by bit, without a state: a bit is left if the effective result of every rule that applies has it
 unfoldable pub everyRule : ℕ → List Member → Hits → ℕ → List Lists → ℕ → Bool
 everyRule kind ms h p [] i = true
-everyRule kind ms h p (r ∷ rs) i = let q = everyRule kind ms h p rs i in bit (resultOf kind ms h p (r .effective)) i && q
+everyRule kind ms h p (r ∷ rs) i =
+    let q = everyRule kind ms h p rs i in
+    cond (appliesTo ms h r) (bit (resultOf kind ms h p (r .effective)) i) true && q
 
--- and staging differs on it if "some rule with a staged DACL" has it in one result and not in the other
+-- and staging differs on it if "some rule with a staged DACL" that applies has it in one result and not in the other
 unfoldable pub someStage : ℕ → List Member → Hits → ℕ → List Lists → ℕ → Bool
 someStage kind ms h p [] i = false
 someStage kind ms h p (r ∷ rs) i =
     let q = someStage kind ms h p rs i in
     let d = xor (bit (resultOf kind ms h p (r .effective)) i) (bit (resultOf kind ms h p (r .staged)) i) in
-    cond (r .stages) (d || q) q
+    cond (appliesTo ms h r && r .stages) (d || q) q

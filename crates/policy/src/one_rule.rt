@@ -1,36 +1,38 @@
 // One rule of a policy: its five sections, judged by shape. Each of its lists is scanned once.
 ghost use mathlib.Core.Path.{_≡_};
 ghost use mathlib.Core.Bool.{_||_};
-ghost use lib.Dec.{ltb};
-ghost use Rattle.policy.specs.Policy.{Lies, alien, noRule, Placed, ruleOf, ruleAt};
+ghost use Rattle.conditions.specs.Scanning.{isForeign};
+ghost use Rattle.policy.specs.Policy.{Lies, noRule, Placed, ruleOf, ruleAt};
 use crate::sections::Section;
-use crate::sections::is_alien;
-use crate::sections::is_broken;
+use crate::sections::applies_in;
 use crate::sections::list_in;
 use crate::sections::maybe_in;
 use crate::sections::section_at;
-use lists::Scan;
+use conditions::Scan;
+use conditions::is_broken;
+use conditions::is_foreign;
 
 // A rule: the place after it (0: misshapen), whether it holds what is not read in this edition, and
-// where its two access lists stand.
+// where its applies_to and its two access lists stand.
 pub struct Rule {
     pub next: usize,
     pub unread: bool,
+    pub applies: Section,
     pub effective: Section,
     pub staged: Section,
 }
 
-// Whether a rule holds what is not read in this edition: bytes of applies_to, or a foreign entry.
-fn is_unread(applies: Section, effective: Scan, staged: Scan) -> bool
-    ensures { λ r. ⌜ r ≡ (ltb (applies .from) (applies .to) || alien effective || alien staged) ⌝ }
+// Whether a rule holds what is not read in this edition: a foreign token or a foreign entry.
+fn is_unread(applies: Scan, effective: Scan, staged: Scan) -> bool
+    ensures { λ r. ⌜ r ≡ (isForeign applies || isForeign effective || isForeign staged) ⌝ }
 {
-    if applies.from < applies.to {
+    if is_foreign(applies) {
         return true;
     }
-    if is_alien(effective) {
+    if is_foreign(effective) {
         return true;
     }
-    is_alien(staged)
+    is_foreign(staged)
 }
 
 // A misshapen rule.
@@ -40,13 +42,14 @@ fn no_rule() -> Rule
     Rule {
         next: 0,
         unread: false,
+        applies: Section { from: 0, to: 0 },
         effective: Section { from: 0, to: 0 },
         staged: Section { from: 0, to: 0 },
     }
 }
 
-// A rule of five sections. Refused: a section that does not fit, an applies_to that is too long, a
-// list that is misshapen.
+// A rule of five sections. Refused: a section that does not fit, an applies_to that is too long or
+// broken, a list that is misshapen.
 fn rule_of(
     s: &[u8],
     applies: Section,
@@ -63,10 +66,8 @@ fn rule_of(
     ensures { λ r. ⌜ r ≡ ruleOf (now (s .entry)) applies dacl sacl staged last ⌝ }
     ensures { λ r. ⌜ Placed (now (s .entry)) r ⌝ }
 {
-    if applies.to == 0 {
-        return no_rule();
-    }
-    if 65536 < applies.to - applies.from {
+    let applies_scan = applies_in(s, applies);
+    if is_broken(applies_scan) {
         return no_rule();
     }
     let effective_scan = list_in(s, dacl);
@@ -85,7 +86,8 @@ fn rule_of(
     }
     Rule {
         next: last.to,
-        unread: is_unread(applies, effective_scan, staged_scan),
+        unread: is_unread(applies_scan, effective_scan, staged_scan),
+        applies,
         effective: dacl,
         staged,
     }

@@ -4,7 +4,7 @@ ghost use mathlib.Core.Path.{_≡_};
 ghost use Rattle.lists.specs.ByLength.{entriesByLength};
 ghost use Rattle.passes.specs.Chains.{shown};
 ghost use Rattle.policy.specs.Policy.{Placed};
-ghost use Rattle.policy.specs.Rules.{resultOf, judgedBy, ruledBy};
+ghost use Rattle.policy.specs.Rules.{resultOf, narrowedBy, judgedBy, ruledBy};
 ghost use Rattle.policy.specs.ByLengths.{ruleByLengths, listsByLengths, rulesByLengths};
 use crate::one_rule::Rule;
 use crate::sections::section_at;
@@ -31,6 +31,7 @@ fn rule_by_lengths(s: &[u8], at: usize) -> Rule
     Rule {
         next: last.to,
         unread: false,
+        applies,
         effective,
         staged,
     }
@@ -56,8 +57,8 @@ fn result(
     passes::normal(kind, true, walked, hits, privileges)
 }
 
-// What is left after one rule more.
-fn judged(
+// What is left after one rule more that applies.
+fn narrowed(
     s: &[u8],
     r: Rule,
     before: Ruled,
@@ -70,7 +71,7 @@ fn judged(
 ) -> Ruled
     requires { ⌜ Placed (now s) r ⌝ }
     ensures { λ q. ⌜
-        q ≡ judgedBy kind
+        q ≡ narrowedBy kind
         (shown (now (heads .entry)) (now (seats .entry)) (now (listing .entry)))
         hits privileges before (listsByLengths (now (s .entry)) r)
         ⌝ }
@@ -101,6 +102,33 @@ fn judged(
         left: Rights(left.0 & e.0),
         differ,
     }
+}
+
+// What is left after one rule more. "A rule that does not apply neither narrows nor flags."
+fn judged(
+    s: &[u8],
+    r: Rule,
+    before: Ruled,
+    kind: u32,
+    listing: &[u8],
+    heads: &[u16; 512],
+    seats: &[u64],
+    hits: Hits,
+    privileges: u64,
+) -> Ruled
+    requires { ⌜ Placed (now s) r ⌝ }
+    ensures { λ q. ⌜
+        q ≡ judgedBy kind
+        (shown (now (heads .entry)) (now (seats .entry)) (now (listing .entry)))
+        hits privileges before (listsByLengths (now (s .entry)) r)
+        ⌝ }
+{
+    let from = r.applies.from;
+    let to = r.applies.to;
+    if passes::admits(&s[from..to], listing, heads, seats, hits) {
+        return narrowed(s, r, before, kind, listing, heads, seats, hits, privileges);
+    }
+    before
 }
 
 // What all rules of a policy leave, for those whom the tables of chains show; `hits` are those of the

@@ -1,11 +1,11 @@
-// The sections of a policy and the lists in them, at places of lent bytes.
+// The sections of a policy and what stands in them, at places of lent bytes.
 ghost use mathlib.Core.Path.{_≡_};
 ghost use mathlib.Core.Bool.{true, cond};
 ghost use lib.Dec.{eqb};
-ghost use Rattle.lists.specs.declared.acl.Scan.the-variants.{Broken};
+ghost use Rattle.conditions.specs.declared.scan.Scan.the-variants.{Broken};
 ghost use Rattle.policy.specs.Policy.{section, sectionAt, bytesOf, Lies, aclSection};
-ghost use Rattle.policy.specs.Policy.{maybeAcl, broken, alien};
-use lists::Scan;
+ghost use Rattle.policy.specs.Policy.{maybeAcl, appliesSection};
+use conditions::Scan;
 
 // The bytes of a section, from a place up to another; both 0 where they do not fit.
 pub struct Section {
@@ -63,6 +63,34 @@ fn maybe_acl(l: &[u8], deep: bool) -> Scan
     acl_section(l, deep)
 }
 
+// What an applies_to is: no bytes, or an expression. "applies_to (at most 65,536)"
+fn applies_section(l: &[u8]) -> Scan
+    ensures { λ r. ⌜ r ≡ appliesSection (now (l .entry)) ⌝ }
+{
+    if l.len() == 0 {
+        return Scan::Plain;
+    }
+    if 65536 < l.len() {
+        return Scan::Broken;
+    }
+    conditions::judge(l)
+}
+
+// What a section at its place holds: an applies_to. Broken where the section does not fit.
+pub(crate) fn applies_in(s: &[u8], x: Section) -> Scan
+    requires { ⌜ Lies (now s) x ⌝ }
+    ensures { λ r. ⌜
+        r ≡ cond (eqb (x .to) 0) Broken (appliesSection (bytesOf (now (s .entry)) x))
+        ⌝ }
+{
+    let from = x.from;
+    let to = x.to;
+    if to == 0 {
+        return Scan::Broken;
+    }
+    applies_section(&s[from..to])
+}
+
 // What a section at its place holds: a list. Broken where the section does not fit.
 pub(crate) fn list_in(s: &[u8], x: Section) -> Scan
     requires { ⌜ Lies (now s) x ⌝ }
@@ -91,26 +119,4 @@ pub(crate) fn maybe_in(s: &[u8], x: Section, deep: bool) -> Scan
         return Scan::Broken;
     }
     maybe_acl(&s[from..to], deep)
-}
-
-// Whether a list is misshapen.
-pub(crate) fn is_broken(x: Scan) -> bool
-    ensures { λ r. ⌜ r ≡ broken x ⌝ }
-{
-    match x {
-        Scan::Broken => true,
-        Scan::Foreign => false,
-        Scan::Plain => false,
-    }
-}
-
-// Whether a well shaped list has an entry type other than 0 and 1.
-pub(crate) fn is_alien(x: Scan) -> bool
-    ensures { λ r. ⌜ r ≡ alien x ⌝ }
-{
-    match x {
-        Scan::Broken => false,
-        Scan::Foreign => true,
-        Scan::Plain => false,
-    }
 }

@@ -1,6 +1,5 @@
 // The shape of a policy, and the numbers 9 and 10. What its lists say is read elsewhere.
 ghost use mathlib.Core.Path.{_≡_};
-ghost use mathlib.Core.Bool.{_||_};
 ghost use Rattle.policy.specs.Policy.{rulesShaped, rulesUnread, standing, standingOf};
 use crate::one_rule::rule_at;
 
@@ -9,16 +8,6 @@ pub enum Standing {
     Sound,
     Misshapen,
     Unread,
-}
-
-// Whether one of the two holds.
-fn either(a: bool, b: bool) -> bool
-    ensures { λ r. ⌜ r ≡ (a || b) ⌝ }
-{
-    if a {
-        return true;
-    }
-    b
 }
 
 // The standing of `n` rules that stand back to back after the heading, with nothing after them.
@@ -36,7 +25,7 @@ fn judge_rules(s: &[u8], n: u32) -> Standing
         if next == 0 {
             return Standing::Misshapen;
         }
-        unread = either(unread, r.unread);
+        unread = base::either(unread, r.unread);
         at = next;
         k += 1;
     }

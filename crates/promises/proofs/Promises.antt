@@ -106,10 +106,12 @@ written = converter.written
 -- ---- Demand 3. "Entries about strangers change nothing. Take two accepted checks alike in token, object kind, mask, self identity and
 -- owner; alike in whether the access list is present; with as many policy rules, and staged lists in the same ones. If every list (the
 -- descriptor's, each rule's effective and staged one) reads the same once entries naming nobody of the token and no virtual identity are
--- struck out, then all three answers are equal."
+-- struck out, then all three answers are equal." Request 103: "Lists read the same only with equal condition bytes; demand 3 also needs
+-- equal applies_to sections; an entry naming a stranger remains a stranger's with any condition."
 pub strangers-change-nothing : (p q : Question) → Accepted p → Accepted q → SameButStrangers p q → checked p ≡ checked q
 strangers-change-nothing = strangers.answer-strangers
 
--- "And a policy that gains one rule anywhere, and is still accepted, grants no bit it did not grant before."
+-- "And a policy that gains one rule anywhere, and is still accepted, grants no bit it did not grant before." The rule may carry an
+-- applies_to
 pub a-rule-more : (p q : Question) → Accepted p → Accepted q → SameButOneRule p q → Within (checked q .granted .0) (checked p .granted .0)
 a-rule-more = gain.gained-rule

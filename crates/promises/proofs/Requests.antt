@@ -7,11 +7,14 @@
 -- (passes/specs/NormalEvaluation.antt); `OwnerEntry`, `GoesBy`, `OwnerAsks`, `ownersRights`, `itsList`, `byObject`
 -- (demands/specs/OwnerEntries.antt); `number`, a number of at most so many bits at a place with the place after it, or none
 -- (base/specs/Sevens.antt); `crowdAt`, whom a listing shows at a place (records/specs/Crowd.antt); `among`, whether one of them has a SID and
--- matches (passes/specs/Matching.antt); `chainsOf`, `shown` (passes/specs/Chains.antt). Assumes nothing.
+-- matches (passes/specs/Matching.antt); `chainsOf`, `shown` (passes/specs/Chains.antt); `outcome`, what an expression comes to for a
+-- membership test, `admits`, whether a condition is none or true (conditions/specs/Membership.antt), `shape`, `shapeOf`, its faults
+-- (conditions/specs/Condition.antt); `taken`, the tally after an entry (passes/specs/OnePass.antt); `Conditioned`, `conditionedBy`,
+-- `applies` (demands/specs/SomeCallers.antt); `known`, `struck`, `SameButOneRule` (demands/specs/Strangers.antt). Assumes nothing.
 use Prim.Native.Nat.{ℕ, _+_, _*_, _<_, _≤_}
 use mathlib.Core.Path.{_≡_}
-use mathlib.Core.List.{List}
-use mathlib.Core.Bool.{Bool, true}
+use mathlib.Core.List.{List, [], _∷_, _++_}
+use mathlib.Core.Bool.{Bool, true, false}
 use mathlib.Core.Logic.{_↔_}
 use lib.ListN.{length, getD, take}
 use Rattle.base.specs.Bits.{and, Within}
@@ -23,9 +26,14 @@ use Rattle.base.proofs.number48 as number48
 use Rattle.base.proofs.number64 as number64
 use Rattle.base.proofs.SevensSteps as steps
 use Rattle.base.proofs.LongerLaws as longer
-use Rattle.lists.specs.Acl.{Entry, entryEnd, scanOf, entriesOf}
+use Rattle.conditions.specs.Condition.{shapeOf, shape}
+use Rattle.conditions.specs.Membership.{reply, toldOf, outcome, admits}
+use Rattle.conditions.proofs.ShapeLaws as shapes
+use Rattle.conditions.proofs.MembershipLaws as membership
+use Rattle.conditions.proofs.judge as judge
+use Rattle.lists.specs.Acl.{named, Entry, entryEnd, scanOf, entriesOf}
 use Rattle.lists.specs.Spare.{LongEnough, saidAt, SameButSpare}
-use Rattle.lists.specs.declared.acl.Scan.the-variants.{Plain}
+use Rattle.conditions.specs.declared.scan.Scan.the-variants.{Plain}
 use Rattle.lists.specs.ByLength.{entriesByLength}
 use Rattle.lists.proofs.ByLengthLaws as lengths
 use Rattle.lists.proofs.SpareLaws as spare
@@ -40,35 +48,43 @@ use Rattle.records.specs.Crowd.{Member, crowdAt}
 use Rattle.records.proofs.TwiceLaws as twice
 use Rattle.masks.specs.KindsAndMasks.{asked}
 use Rattle.passes.specs.Chains.{shown, Tables, tables, chainsOf}
-use Rattle.passes.specs.Matching.{among}
+use Rattle.passes.specs.Matching.{among, matches}
+use Rattle.passes.specs.OnePass.{taken}
 use Rattle.passes.specs.NormalEvaluation.{Dacl, namesOwner, listGives, normalOf}
 use Rattle.passes.specs.declared.matching.Hits.{Hits}
+use Rattle.masks.specs.declared.tally.Tally.{Tally}
 use Rattle.passes.proofs.ChainedLaws as links
+use Rattle.passes.proofs.admits as admitting
 use Rattle.access.specs.Status.{Question, checked}
 use Rattle.demands.specs.Accepted.{Accepted}
+use Rattle.demands.specs.Strangers.{known, struck, SameButOneRule}
 use Rattle.demands.specs.LongEntries.{ReadTheSame}
+use Rattle.demands.specs.SomeCallers.{applies, Conditioned, conditionedBy}
 use Rattle.demands.specs.OwnerEntries.{OwnerEntry, GoesBy, OwnerAsks, ownersRights, itsList, byObject}
 use Rattle.demands.proofs.LongEntriesLaws as long-entries
 use Rattle.demands.proofs.OwnerEntriesLaws as owner-entries
 use Rattle.demands.proofs.OwnersRightsLaws as owners-rights
 use Rattle.demands.proofs.ObjectListsLaws as object-lists
+use Rattle.demands.proofs.SomeCallersLaws as some-callers
 
 -- ---- #101 Older lists with long entries. "Accept a size of 8 plus the SID's length or more, still a multiple of 4."
--- Of an allow or deny entry in a DACL: well shaped exactly then
-pub long-entry : (l : List ℕ) (at : ℕ) → byteAt l at < 2 → (entryEnd true l at ≡ 0 → ⊥) ↔ LongEnough l at
+-- Of an entry in a DACL that holds a SID, of type 0, 1, 9 or 10: well shaped exactly then (its condition apart)
+pub long-entry : (l : List ℕ) (at : ℕ) → named (byteAt l at) ≡ true → (entryEnd true l at ≡ 0 → ⊥) ↔ LongEnough l at
 long-entry = spare.long-enough
 
--- What the entries of an accepted list say: type, flags, mask and SID, spare bytes or not, and the next one begins where the size says
+-- What the entries of an accepted list say: type, flags, mask and SID, spare bytes or not, and the next one begins where the size says; of
+-- a callback entry all bytes behind the SID too
 pub entries-said : (l : List ℕ) → scanOf true l ≡ Plain → entriesOf l ≡ saidAt l (u16At l 4) 8
 entries-said = spare.entries-said
 
 -- "What the entry reader promises changes": m steps give the first m entries of the list that it was opened on, for every m; of a list that
--- is not accepted, of those before the first that is no well shaped allow or deny entry
+-- is not accepted, of those before the first that is not well shaped or of another type than 0, 1, 9 and 10
 pub entries-read : (l : List ℕ) (m : ℕ) → readAll (held l) m 8 ≡ take m (entriesOf l)
 entries-read = reading.read-any
 
 -- "spare bytes never alter an answer". What they hold is not read: with others in their place accepted entries are accepted, and say the
--- same; and two accepted checks whose lists read the same, and that are otherwise alike, have equal answers
+-- same (a callback entry has none: all behind its SID is its condition); and two accepted checks whose lists read the same, and that are
+-- otherwise alike, have equal answers
 pub spare-bytes : (l m : List ℕ) → scanOf true l ≡ Plain → SameButSpare l m →
     (scanOf true m ≡ Plain) × (entriesOf m ≡ entriesOf l)
 spare-bytes = alike.spare-unread
@@ -81,8 +97,8 @@ same-reading = long-entries.answer-read
 pub owner-entry : (es : List Entry) → namesOwner es ≡ true ↔ OwnerEntry es
 owner-entry = owner-entries.named-when
 
--- With none in the descriptor's list and in the effective lists of rules, or inherit-only ones alone, an owner who asks keeps both rights:
--- they are granted as far as they are asked and confinement leaves them
+-- With none in the descriptor's list and in the effective lists of rules that apply, or inherit-only ones alone, an owner who asks keeps
+-- both rights: they are granted as far as they are asked and confinement leaves them
 pub owner-keeps : (q : Question) → Accepted q → OwnerAsks q → ((d : Dacl) → GoesBy q d → OwnerEntry (d .entries) → ⊥) →
     Within (and (asked (q .kind) (q .mask)) (ownersRights q)) (checked q .granted .0)
 owner-keeps = owners-rights.owner-keeps
@@ -104,6 +120,52 @@ list-loses = owners-rights.list-loses
 -- "An inherit-only entry says nothing about the object itself": all three answers are those of the lists without such entries
 pub children-apart : (q : Question) → Accepted q → checked q ≡ byObject q
 children-apart = object-lists.answer-object
+
+-- ---- #103 Rules that apply to some callers. "Broken expressions give 6 or 9, other tokens 8 or 10; within an expression the first met
+-- from the left decides." Which of the three an expression is, broken, with an other token, or neither, does not depend on who is a member:
+-- so it is judged without a token. That the numbers are given exactly then is `bad-input` of Promises.antt
+pub shape-apart : (member : List ℕ → Bool) (s : List ℕ) → shapeOf (outcome member s) ≡ shape s
+shape-apart member s = shapes.shape-any (toldOf member s) s
+
+-- The functions that judge an expression, and that weigh it in a pass: each ends, is safe, and answers by these definitions for all lent
+-- bytes
+pub judging-met : {M : Type 1} → judge.Statement.statement M × admitting.Statement.statement M
+judging-met = (judge.Met.met, admitting.Met.met)
+
+-- Every entry of an accepted list: a callback entry has an expression with a truth, and no other entry has a condition
+pub conditioned : (l : List ℕ) → scanOf true l ≡ Plain → (before : List Entry) (e : Entry) (after : List Entry) →
+    entriesOf l ≡ before ++ e ∷ after → Conditioned e
+conditioned = some-callers.conditioned
+
+-- "Membership means matching for allow in the pass being made": an entry whose condition is false for those who match for allow in that
+-- pass says nothing in it, allow or deny
+pub silent : (kind : ℕ) (ms : List Member) (h : Hits) (t : Tally) (e : Entry) → admits (λ w. matches true ms h w) (e .condition) ≡ false →
+    taken kind ms h t e ≡ t
+silent = some-callers.silent
+
+-- One whose condition is true does what the same entry would do without a condition
+pub spoken : (kind : ℕ) (ms : List Member) (h : Hits) (t : Tally) (e : Entry) → admits (λ w. matches true ms h w) (e .condition) ≡ true →
+    taken kind ms h t e ≡ taken kind ms h t (conditionedBy [] e)
+spoken = some-callers.spoken
+
+-- "Member_of asks for all SIDs of its list (none: true), Member_of_Any for one (none: false)": of no SID, and the two negations
+pub of-none : (member : List ℕ → Bool) → (reply member 0x89 [] ≡ true) × (reply member 0x8b [] ≡ false) × (reply member 0x90 [] ≡ false)
+    × (reply member 0x92 [] ≡ true)
+of-none = membership.none-told
+
+-- "For 102 a callback entry naming S-1-3-4 counts whatever its condition."
+pub owner-still : (c : List ℕ) (e : Entry) (es : List Entry) → namesOwner (conditionedBy c e ∷ es) ≡ namesOwner (e ∷ es)
+owner-still = some-callers.owner-named
+
+-- "an entry naming a stranger remains a stranger's with any condition": demand 3 strikes it out
+pub stranger-still : (t : Token) (e : Entry) (c : List ℕ) (es : List Entry) → known t (e .sid) ≡ false →
+    struck t (conditionedBy c e ∷ es) ≡ struck t es
+stranger-still = some-callers.stranger-struck
+
+-- "A rule that does not apply neither narrows nor flags": with it or without it all three answers are equal
+pub rule-apart : (p q : Question) → Accepted p → Accepted q → (s : SameButOneRule p q) → applies p (s .policy .gained) ≡ false →
+    checked q ≡ checked p
+rule-apart = some-callers.rule-apart
 
 -- ---- #104 Faster one-byte numbers. "What it answers, refusals included, does not change."
 -- Of its three doors, for 32, 48 and 64 bits: for all lent bytes each ends, is safe, and answers `number` of its width (base/src/sevens.rt)

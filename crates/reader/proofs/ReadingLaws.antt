@@ -15,13 +15,13 @@ use borrow.Author.Tests.{eqb-true, eqb-false, ltb-true, ltb-false}
 use Rattle.base.specs.Bytes.{byteAt, u16At, part}
 use Rattle.base.proofs.BytesLaws.{length-part, part-short}
 use Rattle.lists.specs.Acl.{Entry, aceAt, entryOf, entriesAt, entriesOf, scanOf}
-use Rattle.lists.specs.Spare.{Agree}
+use Rattle.lists.specs.Spare.{Agree, readTo}
 use Rattle.lists.specs.declared.acl.Ace.{Ace}
-use Rattle.lists.specs.declared.acl.Scan.the-variants.{Plain}
-use Rattle.lists.proofs.PartLaws.{byte-of-part}
+use Rattle.conditions.specs.declared.scan.Scan.the-variants.{Plain}
+use Rattle.base.proofs.PartLaws.{byte-of-part}
 use Rattle.lists.proofs.DescriptorSteps.{part-in-past, part-in-inside}
 use Rattle.lists.proofs.AclLaws.{entries-stop, entries-more, entries-short, plain-reads-all}
-use Rattle.lists.proofs.SpareLaws.{ace-bounds, ace-past}
+use Rattle.lists.proofs.SpareLaws.{ace-bounds, ace-past, read-fits}
 use Rattle.lists.proofs.AlikeLaws.{ace-alike, entry-alike}
 use Rattle.reader.specs.declared.Entries.{Entries}
 use Rattle.reader.specs.declared.Step.the-variants.{Entry as Shown, End}
@@ -38,9 +38,9 @@ module _ (l : List ℕ) (e at : ℕ) where
       step-none (part l 0 e) at (ace-past (part l 0 e) at (omega arith))
 
   module _ (h : aceAt l at .next ≡ 0 → ⊥) (k : aceAt l at .next ≤ e) (i : e ≤ length l) where
-    front-agrees : Agree l (part l 0 e) at (aceAt l at .to)
+    front-agrees : Agree l (part l 0 e) at (readTo (aceAt l at))
     front-agrees j x y =
-        let f : aceAt l at .to ≤ aceAt l at .next = ace-bounds l at h .fits in
+        let f : readTo (aceAt l at) ≤ aceAt l at .next = read-fits l at h in
         let z : 0 + j ≡ j = omega arith in
         byte-of-part l 0 e j (omega arith) ∙ ap (byteAt l) z
 

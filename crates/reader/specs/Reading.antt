@@ -12,7 +12,8 @@ use Rattle.lists.specs.Descriptor.{partIn}
 use Rattle.reader.specs.declared.Step.{Step}
 use Rattle.reader.specs.declared.Step.the-variants.{Entry as Shown, End}
 
--- the place after the last of n entries back to back from place p; an entry that is no well shaped allow or deny entry is not passed
+-- the place after the last of n entries back to back from place p; an entry that is not well shaped, or of another type than 0, 1, 9
+-- and 10, is not passed
 unfoldable pub endFrom : List ℕ → ℕ → ℕ → ℕ
 endFrom l zero p = p
 endFrom l (suc n) p =

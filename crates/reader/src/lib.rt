@@ -10,7 +10,7 @@ ghost use Rattle.base.specs.Bytes.{u16At};
 use lists::Ace;
 use lists::Extent;
 
-// What stands at a place of a list: one of its allow and deny entries, or the end.
+// What stands at a place of a list: one of its entries with a SID, or the end.
 pub enum Step {
     Entry(Ace),
     End,

@@ -19,7 +19,7 @@ use Rattle.base.specs.declared.sevens.Num.{Num}
 use Rattle.base.proofs.BytesLaws.{part-at}
 use Rattle.base.proofs.ReadLaws.{num-some}
 use Rattle.base.proofs.SevensLaws.{number-bounds}
-use Rattle.lists.specs.Sid.{virtual}
+use Rattle.sids.specs.Sid.{virtual}
 use Rattle.records.specs.Token.{Group, Token, unconfined}
 use Rattle.records.specs.Fields.{many, each, groupAt, groupBytes, confinementAt, confinementBytes, peopleAt, peopleBytes, fieldsBytes}
 use Rattle.records.specs.TokenRecord.{packedIdentity, packedReader}

@@ -15,8 +15,8 @@ use Rattle.base.proofs.BytesLaws.{part-of-drop}
 use Rattle.base.proofs.ValueLaws.{length-little, little-eight}
 use Rattle.base.proofs.WordsLaws.{u32-at-back}
 use Rattle.base.proofs.PlaceLaws.{Stands, stands-left, stands-right, stands-whole}
-use Rattle.lists.specs.Sid.{sidEnd}
-use Rattle.lists.proofs.SidLaws.{is-sid-long}
+use Rattle.sids.specs.Sid.{sidEnd}
+use Rattle.sids.proofs.SidLaws.{is-sid-long}
 use Rattle.records.specs.Token.{Token, confined}
 use Rattle.records.specs.Shaped.{All, Identity, ShapedGroup, ShapedConfined, Shaped}
 use Rattle.records.specs.Fields.{each, groupBytes, confinementBytes, peopleBytes, fieldsBytes}

@@ -8,8 +8,8 @@ use native.Mathlib.Omega.{arith}
 use lib.ListN.{length}
 use Rattle.base.proofs.BytesLaws.{part-of-drop}
 use Rattle.base.proofs.PlaceLaws.{Stands, stands-end}
-use Rattle.lists.specs.Sid.{sidEnd, isSid}
-use Rattle.lists.proofs.SidLaws.{sid-end-of-part}
+use Rattle.sids.specs.Sid.{sidEnd, isSid}
+use Rattle.sids.proofs.SidLaws.{sid-end-of-part}
 
 pub sid-end-stands : {s : List ℕ} {at : ℕ} {w q : List ℕ} → isSid w ≡ true → Stands s at w q → sidEnd s at ≡ at + length w
 sid-end-stands {s} {at} {w} {q} h x =

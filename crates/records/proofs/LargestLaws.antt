@@ -11,7 +11,7 @@ use lib.ListN.{length, length-append, replicate, length-replicate}
 use Rattle.base.specs.Bytes.{same, u32At, u48BeAt}
 use Rattle.base.specs.Sevens.{sevens}
 use Rattle.base.proofs.ValueLaws.{length-little}
-use Rattle.lists.specs.Sid.{sidEnd, isSid}
+use Rattle.sids.specs.Sid.{sidEnd, isSid}
 use Rattle.records.specs.Token.{Group, Token}
 use Rattle.records.specs.Shaped.{All, Identity, ShapedGroup, Shaped}
 use Rattle.records.specs.Fields.{Writer, each, groupBytes, confinementBytes, peopleBytes, fieldsBytes}

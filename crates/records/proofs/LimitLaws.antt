@@ -14,7 +14,7 @@ use Rattle.base.specs.Sevens.{packed, sevens}
 use Rattle.base.proofs.ValueLaws.{length-little}
 use Rattle.base.proofs.WordsLaws.{u48-be-at-lt}
 use Rattle.base.proofs.SevensLaws.{packed-length}
-use Rattle.lists.proofs.SidLaws.{sid-shape, is-sid-short}
+use Rattle.sids.proofs.SidLaws.{sid-shape, is-sid-short}
 use Rattle.records.specs.Token.{Token}
 use Rattle.records.specs.Shaped.{Identity, Shaped}
 use Rattle.records.specs.FlatListing.{readListing, listingOf, flatWriter}

@@ -15,8 +15,8 @@ use Rattle.base.proofs.ValueLaws.{length-little, little-eight}
 use Rattle.base.proofs.WordsLaws.{u32-at-lt, u32-at-back, little-of-u32-at}
 use Rattle.base.proofs.PlaceLaws.{Stands, stands-end, stands-left, stands-right, Formed, formed-append, formed-same}
 use Rattle.base.proofs.ReadLaws.{passed, moved}
-use Rattle.lists.specs.Sid.{sidEnd}
-use Rattle.lists.proofs.SidLaws.{sid-end-bounds, sid-of-part, is-sid-long}
+use Rattle.sids.specs.Sid.{sidEnd}
+use Rattle.sids.proofs.SidLaws.{sid-end-bounds, sid-of-part, is-sid-long}
 use Rattle.records.specs.Shaped.{Identity}
 use Rattle.records.specs.FlatListing.{word, doubleWord, flatIdentity, flatReader, flatWriter}
 use Rattle.records.proofs.FormatLaws.{Kept}

@@ -11,8 +11,8 @@ use lib.ListN.{length}
 use Rattle.base.specs.Bytes.{byteAt, u32At, u48BeAt, part}
 use Rattle.base.specs.Sevens.{packed}
 use Rattle.base.proofs.WriteLaws.{room-first}
-use Rattle.lists.specs.Sid.{sidEnd}
-use Rattle.lists.proofs.SidLaws.{sid-end-bounds}
+use Rattle.sids.specs.Sid.{sidEnd}
+use Rattle.sids.proofs.SidLaws.{sid-end-bounds}
 use Rattle.records.specs.TokenRecord.{packedWords, packIdentity}
 use Rattle.records.specs.Packing.{identityAt, memberBytes, memberEnd, membersBytes, membersEnd, MembersStand, crowdBytes, crowdEnd}
 use Rattle.records.specs.Packing.{CrowdStands}

@@ -15,7 +15,7 @@ use Rattle.base.specs.Sevens.{packed}
 use Rattle.base.proofs.ValueLaws.{length-little}
 use Rattle.base.proofs.PlaceLaws.{Stands, stands-left, stands-right}
 use Rattle.base.proofs.ReadLaws.{passed}
-use Rattle.lists.specs.Sid.{sidEnd}
+use Rattle.sids.specs.Sid.{sidEnd}
 use Rattle.records.specs.Token.{Token, confined}
 use Rattle.records.specs.Shaped.{All, Identity, ShapedGroup, ShapedConfined, Shaped}
 use Rattle.records.specs.Fields.{each, groupBytes, confinementBytes, peopleBytes, fieldsBytes}

@@ -19,7 +19,7 @@ use Rattle.base.proofs.WordsLaws.{u32-at-lt, u32-at-back, little-of-u32-at, u48
 use Rattle.base.proofs.SevensLaws.{number-lt, number-bounds, number-of-drop, number-form}
 use Rattle.base.proofs.PlaceLaws.{length-three, Stands, stands-left, stands-right, Formed, formed-append, formed-same}
 use Rattle.base.proofs.ReadLaws.{bound, allowed, moved}
-use Rattle.lists.proofs.SidLaws.{sid-shape, sid-of-shape}
+use Rattle.sids.proofs.SidLaws.{sid-shape, sid-of-shape}
 use Rattle.records.specs.Shaped.{All, Identity}
 use Rattle.records.specs.Fields.{many, each}
 use Rattle.records.specs.TokenRecord.{packedIdentity, packedReader, packedWords, packIdentity, packedWriter}

@@ -10,7 +10,7 @@ use Rattle.base.specs.Sevens.{packed}
 use Rattle.base.proofs.ValueLaws.{length-little}
 use Rattle.base.proofs.WordsLaws.{u48-be-at-lt}
 use Rattle.base.proofs.SevensLaws.{packed-length}
-use Rattle.lists.proofs.SidLaws.{sid-shape}
+use Rattle.sids.proofs.SidLaws.{sid-shape}
 use Rattle.records.specs.Token.{Group, Confined, Token, confined}
 use Rattle.records.specs.Shaped.{All, Identity, ShapedGroup, Confinement, Shaped}
 use Rattle.records.specs.Fields.{Writer, each, groupBytes, confinementBytes, peopleBytes, fieldsBytes}

@@ -7,7 +7,7 @@ use mathlib.Core.Bool.{true, false}
 use lib.ListN.{length}
 use Rattle.base.specs.Bytes.{Read}
 use Rattle.base.specs.Bytes.Read.{none, some}
-use Rattle.lists.specs.Sid.{virtual}
+use Rattle.sids.specs.Sid.{virtual}
 use Rattle.records.specs.Token.{Group, Token}
 use Rattle.records.specs.FlatListing.{listingOf}
 use Rattle.records.specs.Crowd.{confinedPlace}

@@ -6,7 +6,7 @@ use lib.ListN.{length}
 use lib.Dec.{eqb}
 use Rattle.base.specs.Bytes.{u32At, part}
 use Rattle.base.specs.Bits.{has}
-use Rattle.lists.specs.Sid.{sidEnd}
+use Rattle.sids.specs.Sid.{sidEnd}
 use Rattle.records.specs.Token.{Group, Token}
 use Rattle.records.specs.Fields.{each, groupBytes}
 use Rattle.records.specs.FlatListing.{flatWriter}

@@ -7,7 +7,7 @@ use lib.ListN.{length}
 use lib.Dec.{ltb, eqb}
 use Rattle.base.specs.Bytes.{Read, u32At, part, little}
 use Rattle.base.specs.Bytes.Read.{none, some}
-use Rattle.lists.specs.Sid.{sidEnd}
+use Rattle.sids.specs.Sid.{sidEnd}
 use Rattle.records.specs.Token.{Token}
 use Rattle.records.specs.Fields.{Reader, Writer, fieldsAt, fieldsBytes, ended}
 

@@ -6,7 +6,7 @@ use mathlib.Core.List.{List, [], _++_}
 use mathlib.Core.Bool.{Bool, true, false}
 use Rattle.base.specs.Bytes.{u32At, part}
 use Rattle.base.specs.Sevens.{packed}
-use Rattle.lists.specs.Sid.{sidEnd}
+use Rattle.sids.specs.Sid.{sidEnd}
 use Rattle.records.specs.Token.{confined}
 use Rattle.records.specs.TokenRecord.{packIdentity}
 use Rattle.records.specs.Crowd.{width, userPlace}

@@ -6,7 +6,7 @@ use mathlib.Core.Bool.{Bool, true, false}
 use lib.Dec.{T}
 use lib.Pow.{areBytes}
 use lib.ListN.{length}
-use Rattle.lists.specs.Sid.{isSid}
+use Rattle.sids.specs.Sid.{isSid}
 use Rattle.records.specs.Token.{Group, Confined, Token, confined, unconfined}
 
 -- it holds of each

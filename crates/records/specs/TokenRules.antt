@@ -3,7 +3,7 @@ use Prim.Native.Nat.{ℕ}
 use mathlib.Core.List.{List, [], _∷_}
 use mathlib.Core.Bool.{Bool, true, false, cond, not, _&&_, _||_}
 use Rattle.base.specs.Bytes.{same}
-use Rattle.lists.specs.Sid.{virtual}
+use Rattle.sids.specs.Sid.{virtual}
 use Rattle.records.specs.Token.{Group, Token, confined, exempt}
 
 -- S-1-15-2-2

@@ -129,7 +129,7 @@ fn unpack_identity(s: &[u8], at: usize, out: &mut [u8], o: usize) -> Step
         ok: true,
         next: w.next,
         to,
-        clean: !lists::is_virtual(&out[o..to]),
+        clean: !sids::is_virtual(&out[o..to]),
     }
 }
 

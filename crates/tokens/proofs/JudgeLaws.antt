@@ -11,8 +11,8 @@ use borrow.Author.Tests.{not-true, not-false, eq-eqb, ne-eqb, le-ltb, lt-ltb}
 use lib.ListN.{length}
 use Rattle.base.specs.Bytes.{Read, bind, part, u32At, same}
 use Rattle.base.specs.Bytes.Read.{none, some}
-use Rattle.lists.specs.Sid.{sidEnd, virtual}
-use Rattle.lists.proofs.SidLaws.{sid-end-bounds}
+use Rattle.sids.specs.Sid.{sidEnd, virtual}
+use Rattle.sids.proofs.SidLaws.{sid-end-bounds}
 use Rattle.records.specs.Token.{Group}
 use Rattle.records.specs.Fields.{many, groupAt}
 use Rattle.records.specs.FlatListing.{word, flatIdentity, flatReader}

@@ -13,7 +13,7 @@ use Rattle.base.specs.Bytes.{only, part, u32At, same}
 use Rattle.base.specs.Bytes.Read.{none, some}
 use Rattle.base.specs.Bits.{and}
 use Rattle.base.proofs.BytesLaws.{length-part}
-use Rattle.lists.specs.Sid.{sidEnd, virtual}
+use Rattle.sids.specs.Sid.{sidEnd, virtual}
 use Rattle.records.specs.Token.{Confined, Token, confined, exempt, unconfined}
 use Rattle.records.specs.Fields.{many, each, groupAt, groupBytes, confinementAt, peopleAt, fieldsAt, ended}
 use Rattle.records.specs.FlatListing.{doubleWord, flatIdentity, flatReader, flatWriter, readListing}

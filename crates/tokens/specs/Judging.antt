@@ -7,7 +7,7 @@ use lib.ListN.{length, replicate}
 use lib.Seq.{sets}
 use Rattle.base.specs.Bytes.{Read, bind}
 use Rattle.base.specs.Bytes.Read.{none, some}
-use Rattle.lists.specs.Sid.{virtual}
+use Rattle.sids.specs.Sid.{virtual}
 use Rattle.records.specs.Token.{Confined, Token, confined, exempt}
 use Rattle.records.specs.Crowd.{confinedPlace}
 use Rattle.records.specs.TokenRules.{virtualIn, lists, allRestricted, keeps}

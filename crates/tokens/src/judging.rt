@@ -4,7 +4,7 @@ ghost use mathlib.Core.Bool.{true, _||_};
 ghost use Prim.Native.Nat.{ℕ, _≤_};
 ghost use lib.ListN.{length};
 ghost use Rattle.base.specs.Bytes.{part, same};
-ghost use Rattle.lists.specs.Sid.{virtual};
+ghost use Rattle.sids.specs.Sid.{virtual};
 ghost use Rattle.records.specs.Token.{confined};
 ghost use Rattle.records.specs.Fields.{many, groupAt, confinementAt, peopleAt, ended};
 ghost use Rattle.records.specs.FlatListing.{flatIdentity, flatReader, readListing};
@@ -67,7 +67,7 @@ fn is_virtual(s: &[u8], from: usize, to: usize) -> bool
     requires { ⌜ (from ≤ to) × (to ≤ length (now s)) ⌝ }
     ensures { λ r. ⌜ r ≡ virtual (part (now (s .entry)) from to) ⌝ }
 {
-    lists::is_virtual(&s[from..to])
+    sids::is_virtual(&s[from..to])
 }
 
 // Whether the identity from `from` to `to` is S-1-15-2-2.
@@ -89,7 +89,7 @@ fn judge_groups(s: &[u8], at: usize, n: u32) -> Walk
     let mut more = n;
     let mut breaks = false;
     while 0 < more {
-        let e = lists::sid_end(s, from);
+        let e = sids::sid_end(s, from);
         if e == 0 {
             return LOST;
         }
@@ -118,7 +118,7 @@ fn judge_capabilities(s: &[u8], at: usize, n: u32) -> Capabilities
     let mut breaks = false;
     let mut listed = false;
     while 0 < more {
-        let e = lists::sid_end(s, from);
+        let e = sids::sid_end(s, from);
         if e == 0 {
             return Capabilities {
                 ok: false,
@@ -146,7 +146,7 @@ fn judge_confinement(s: &[u8], at: usize) -> Walk
     ensures { λ r. ⌜ walked r ≡ told confinementBreaks (confinementAt flatReader true (now (s .entry)) at) ⌝ }
     ensures { λ r. ⌜ r .next ≤ length (now (s .entry)) ⌝ }
 {
-    let e = lists::sid_end(s, at);
+    let e = sids::sid_end(s, at);
     if e == 0 {
         return LOST;
     }
@@ -191,7 +191,7 @@ fn judge_people(s: &[u8], flags: u32) -> Judged
     ensures { λ r. ⌜ ((p : ℕ) → r ≡ judgedOf (ended (now (s .entry)) (peopleAt flatReader flags p (now (s .entry)) 12))) ⌝ }
     ensures { λ r. ⌜ r .«confined_at» ≤ length (now (s .entry)) ⌝ }
 {
-    let e = lists::sid_end(s, 12);
+    let e = sids::sid_end(s, 12);
     if e == 0 {
         return MISSHAPEN;
     }

@@ -8,7 +8,7 @@ ghost use lib.ListN.{length};
 ghost use lib.Seq.{sets};
 ghost use Rattle.base.specs.Sevens.{packed};
 ghost use Rattle.base.specs.Writing.{Wrote};
-ghost use Rattle.lists.specs.Sid.{sidEnd, isSid};
+ghost use Rattle.sids.specs.Sid.{sidEnd, isSid};
 ghost use Rattle.records.specs.TokenRecord.{packedWords, packIdentity};
 ghost use Rattle.records.specs.Converters.{asRecord, fitted, result};
 ghost use Rattle.records.specs.Packing.{memberBytes, memberEnd, membersBytes, membersEnd};

@@ -4,7 +4,7 @@ ghost use mathlib.Core.Path.{_≡_};
 ghost use Prim.Native.Nat.{_+_, _*_, _≤_};
 ghost use lib.ListN.{length};
 ghost use Rattle.base.specs.Bytes.{u32At, u48BeAt};
-ghost use Rattle.lists.specs.Sid.{sidEnd};
+ghost use Rattle.sids.specs.Sid.{sidEnd};
 ghost use Rattle.records.specs.Packing.{doubleAt};
 
 // The four bytes at a place as a number, lowest first.

@@ -26,7 +26,7 @@ pub fn by_plain(input: &Input, mask: u32) -> Said {
     plain::check(1, mask, token, self_id, descriptor, policy)
 }
 
-fn reference(input: &Input, mask: u32) -> Said {
+pub fn reference(input: &Input, mask: u32) -> Said {
     let Input { token, self_id, descriptor, policy, .. } = input;
     pirasteh_reference::check(1, mask, token, self_id, descriptor, policy).map(|a| Answer {
         granted: a.granted,

@@ -74,7 +74,7 @@ pub fn owner(sheet: &mut Sheet) {
     }
 }
 
-fn heading(third: &str) {
+pub fn heading(third: &str) {
     sheet::heading(&front(["entries", "identities", third, "rules", "calls"]));
 }
 
@@ -83,7 +83,7 @@ fn front([entries, identities, third, rules, calls]: [&str; 5]) -> String {
 }
 
 /// A row for each number of calls.
-fn rows(sheet: &mut Sheet, input: &Input, calls: &[usize]) {
+pub fn rows(sheet: &mut Sheet, input: &Input, calls: &[usize]) {
     same_answers(input);
     calls.iter().for_each(|&calls| row(sheet, input, calls));
 }

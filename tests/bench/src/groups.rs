@@ -1,7 +1,7 @@
 //! The groups of rows, and which of them are asked for.
 
 use crate::sheet::Sheet;
-use crate::{checks, conversions};
+use crate::{checks, conditions, conversions};
 
 pub struct Group {
     pub name: &'static str,
@@ -10,7 +10,7 @@ pub struct Group {
     pub rows: fn(&mut Sheet),
 }
 
-pub const GROUPS: [Group; 8] = [
+pub const GROUPS: [Group; 9] = [
     Group {
         name: "table",
         about: "no entry names the asker, or the first one does and allows everything",
@@ -48,6 +48,12 @@ pub const GROUPS: [Group; 8] = [
         name: "owner",
         about: "all entries name S-1-3-4 with these flags, on an object of the asker's if 0x08",
         rows: checks::owner,
+    },
+    Group {
+        name: "conditions",
+        about: "callback entries of strangers and of the asker; and one condition of thousands of \
+                strangers, in an entry for the asker or as an applies_to, whole and half as long",
+        rows: conditions::rows,
     },
     Group {
         name: "conversions",

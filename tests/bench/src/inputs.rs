@@ -4,7 +4,7 @@ use crate::hard::Shared;
 use crate::large;
 use crate::named::Named;
 use crate::people::People;
-use pirasteh_cases::make::{policy, Descriptor, Rule};
+use pirasteh_cases::make::{acl, policy, Descriptor, Rule};
 
 pub struct Input {
     /// Entries of the descriptor's list; of a large policy those of its lists.
@@ -51,6 +51,19 @@ impl Input {
         let input = Input::without_policy(&people, FEW_ENTRIES, Named::Last);
         let rules = large::rules(&people.strangers, &lengths);
         Input { entries, third: shared.name(), rules: rules.len(), policy: policy(&rules), ..input }
+    }
+
+    /// These lists and rules, for people of whom somebody else owns the object.
+    pub fn of(people: &People, third: String, list: &[Vec<u8>], rules: &[Rule]) -> Input {
+        let owner = Named::Strangers.owner(people);
+        Input {
+            entries: list.len(),
+            third,
+            rules: rules.len(),
+            descriptor: Descriptor::owned_by(&owner).dacl(&acl(list)).bytes(),
+            policy: whole(rules),
+            ..Input::without_policy(people, 0, Named::Strangers)
+        }
     }
 
     /// How it is called in one line.

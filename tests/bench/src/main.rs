@@ -8,6 +8,7 @@
 
 mod ask;
 mod checks;
+mod conditions;
 mod conversions;
 mod floor;
 mod groups;

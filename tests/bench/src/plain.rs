@@ -3,14 +3,17 @@
 //!
 //! The token is decoded once, into a buffer on the stack. Each list is walked once: its shape is
 //! judged and its entries are taken in the same walk. An entry is matched only if it has a bit
-//! that is asked and not decided. Nothing is allocated.
+//! that is asked and not decided, and its condition evaluated only if it matches. Nothing is
+//! allocated.
 
+mod condition;
 mod convert;
 mod token;
 mod walk;
 
 pub use convert::{list, pack};
 
+use condition::Fault;
 use token::{Stack, Token, MOST_CONFINED, MOST_NORMAL};
 use walk::{dacl, evaluated, sacl, Party, Setting};
 
@@ -152,11 +155,11 @@ pub fn check(
 
     let mut granted = if d[2] & 0x04 != 0 {
         let (_, walked) =
-            part(u32_at(d, 16)).and_then(|list| dacl(&setting, true, list)).ok_or(6u32)?;
+            part(u32_at(d, 16)).and_then(|list| dacl(&setting, asked, true, list)).ok_or(6u32)?;
         if owner.is_none() {
             return Err(7);
         }
-        if walked.other_type {
+        if walked.unread {
             return Err(8);
         }
         let confined = if setting.confined.is_some() { walked.confined } else { u32::MAX };
@@ -172,6 +175,18 @@ pub fn check(
     let staged = rules(&setting, policy, &mut granted)?;
     let allowed = explicit & !granted == 0 && (mask & MAXIMUM == 0 || granted != 0);
     Ok(Answer { granted, allowed, staged })
+}
+
+/// Judges an applies_to. Gives whether its rule applies.
+fn applies(setting: &Setting, section: &[u8]) -> Result<bool, Fault> {
+    if section.is_empty() {
+        return Ok(true);
+    }
+    if section.len() > 65_536 {
+        return Err(Fault::Broken);
+    }
+    condition::judge(section)?;
+    Ok(condition::holds(section, &setting.normal))
 }
 
 /// Judges a policy and narrows what is granted by its rules. Gives the staging flag.
@@ -202,9 +217,6 @@ fn rules(setting: &Setting, policy: &[u8], granted: &mut u32) -> Result<bool, u3
             rest = after;
             Ok(front)
         };
-        let list = |bytes: &[u8]| {
-            dacl(setting, false, bytes).filter(|(size, _)| *size == bytes.len()).ok_or(9u32)
-        };
         let audit = |bytes: &[u8]| {
             if bytes.is_empty() || sacl(bytes) == Some(bytes.len()) {
                 Ok(())
@@ -212,21 +224,31 @@ fn rules(setting: &Setting, policy: &[u8], granted: &mut u32) -> Result<bool, u3
                 Err(9u32)
             }
         };
-        let applies_to = section()?;
-        if applies_to.len() > 65_536 {
-            return Err(9);
-        }
-        unread |= !applies_to.is_empty();
+        let applies = match applies(setting, section()?) {
+            Ok(applies) => applies,
+            Err(Fault::Broken) => return Err(9),
+            Err(Fault::OtherToken) => {
+                unread = true;
+                false
+            }
+        };
+        // Of a rule that does not apply the lists are judged, and nothing more.
+        let asked = if applies { setting.asked } else { 0 };
+        let list = |bytes: &[u8]| {
+            dacl(setting, asked, false, bytes).filter(|(size, _)| *size == bytes.len()).ok_or(9u32)
+        };
         let (_, effective) = list(section()?)?;
-        unread |= effective.other_type;
+        unread |= effective.unread;
         audit(section()?)?;
         let effective = evaluated(setting, &effective);
-        *granted &= effective;
+        if applies {
+            *granted &= effective;
+        }
         let proposal = section()?;
         if !proposal.is_empty() {
             let (_, proposed) = list(proposal)?;
-            unread |= proposed.other_type;
-            staged |= (evaluated(setting, &proposed) ^ effective) & setting.asked != 0;
+            unread |= proposed.unread;
+            staged |= applies && (evaluated(setting, &proposed) ^ effective) & setting.asked != 0;
         }
         audit(section()?)?;
     }

@@ -1,5 +1,7 @@
 //! Spoils cases: at every limit of a format, in single bytes, and by noise.
 
+use crate::conditions;
+use crate::expressions;
 use crate::make::{self, Question, Token};
 use crate::people::{self, People};
 use crate::random::{self, Draft, Laid, LaidRule, Place};
@@ -312,7 +314,7 @@ fn a_list(rng: &mut Rng, laid: &mut Laid) {
     let left = (laid.bytes.len() - at) as u16;
     let size = laid.u16_at(at + 2);
     let count = laid.u16_at(at + 4);
-    let which = if entries.is_empty() { rng.below(4) } else { rng.below(14) };
+    let which = if entries.is_empty() { rng.below(4) } else { rng.below(18) };
     match which {
         0 => laid.bytes[at] = rng.of(&[0, 1, 2, 3, 4, 5, 0xFF]),
         1 | 2 => {
@@ -386,11 +388,30 @@ fn a_list(rng: &mut Rng, laid: &mut Laid) {
             laid.put_u16(entry + 2, 4);
             laid.put_u16(at + 4, 1 + rng.below(usize::from(count)) as u16);
         }
-        _ => {
+        10..=13 => {
             let entry = rng.of(&entries);
             end_of_sid(rng, laid, at, entry);
         }
+        _ => {
+            let entry = rng.of(&entries);
+            a_condition(rng, laid, entry);
+        }
     }
+}
+
+/// Spoils a byte or two of an entry's condition, if it has one. Its size stays.
+fn a_condition(rng: &mut Rng, laid: &mut Laid, entry: usize) {
+    let end = entry + usize::from(laid.u16_at(entry + 2));
+    if end > laid.bytes.len() || end < entry + 16 || !matches!(laid.bytes[entry], 9 | 10) {
+        return;
+    }
+    let start = entry + 16 + 4 * usize::from(laid.bytes[entry + 9]);
+    if start >= end {
+        return;
+    }
+    let mut condition = conditions::spoiled(rng, laid.bytes[start..end].to_vec());
+    condition.resize(end - start, rng.of(&[0, 0, 0, 1]));
+    laid.bytes[start..end].copy_from_slice(&condition);
 }
 
 /// A SID that ends at the end of its entry, or just behind it, or an entry that ends elsewhere.
@@ -451,7 +472,7 @@ fn another_type(rng: &mut Rng, laid: &mut Laid) {
     }
     let entry = rng.of(entries);
     if entry + 1 < laid.bytes.len() {
-        laid.bytes[entry] = rng.of(&[2, 3, 4, 5, 6, 9, 10, 17, 0x80, 0xFF]);
+        laid.bytes[entry] = rng.of(&[2, 3, 4, 5, 6, 8, 9, 10, 11, 12, 16, 17, 0x80, 0xFF]);
         if rng.one_in(3) {
             laid.bytes[entry + 1] |= 0x08;
         }
@@ -468,12 +489,11 @@ fn spoiled_policy(rng: &mut Rng, mut rules: Vec<LaidRule>) -> Vec<u8> {
     match which {
         0 | 1 => {
             let rule = rng.below(rules.len());
-            let length = 1 + rng.below(40);
-            rules[rule].applies_to = rng.bytes(length);
+            rules[rule].applies_to = spoiled_applies_to(rng, &rules[rule].applies_to);
         }
         2 if rng.one_in(20) => {
             let rule = rng.below(rules.len());
-            rules[rule].applies_to = vec![0x61; rng.of(&[65_535, 65_536, 65_537])];
+            rules[rule].applies_to = long_applies_to(rng);
         }
         3 => {
             let rule = rng.below(rules.len());
@@ -523,6 +543,35 @@ fn spoiled_policy(rng: &mut Rng, mut rules: Vec<LaidRule>) -> Vec<u8> {
         _ => a_list(rng, &mut laid),
     }
     laid.bytes
+}
+
+/// An applies_to that is spoiled in a few bytes, or nothing but noise.
+fn spoiled_applies_to(rng: &mut Rng, condition: &[u8]) -> Vec<u8> {
+    if rng.one_in(6) {
+        let length = 1 + rng.below(40);
+        return rng.bytes(length);
+    }
+    if condition.is_empty() {
+        let people = People::new(rng);
+        let condition = conditions::whole(rng, &|rng| people.one_or_virtual(rng));
+        return conditions::spoiled(rng, condition);
+    }
+    conditions::spoiled(rng, condition.to_vec())
+}
+
+/// An applies_to as long as may be, and one byte longer: a whole condition, by its padding or by its
+/// SIDs, but for a few.
+fn long_applies_to(rng: &mut Rng) -> Vec<u8> {
+    let length = rng.of(&[65_535, 65_536, 65_536, 65_537]);
+    let sids: Vec<Vec<u8>> =
+        (0..rng.of(&[0, 3_850])).map(|i| make::sid(5, &[1_000_000 + i])).collect();
+    let mut condition =
+        expressions::asks(rng.of(&expressions::MEMBERS), &expressions::composite(&sids));
+    condition.resize(length, 0);
+    if rng.one_in(4) {
+        condition[length - 1] = rng.of(&[1, 0xF8]);
+    }
+    condition
 }
 
 /// A policy as long as may be, and one byte longer, well shaped but for that.

@@ -2,6 +2,7 @@
 //! them: entries for S-1-3-4, which still take the owner's rights away, and entries that decide
 //! nothing any more. The owner asks.
 
+use crate::expressions;
 use crate::make::{self, Descriptor, Question, Rule, Token};
 use crate::people;
 use crate::random::Case;
@@ -173,11 +174,18 @@ fn tail(rng: &mut Rng, row: Row, cast: &Cast, left: u32) -> Vec<Vec<u8>> {
     let counts = |rng: &mut Rng| {
         let flags = rng.of(&[0, 0, 0x10, 0xF7, 0x03]);
         let mask = rng.of(&[0, OWNERS, u32::MAX]) & !left;
+        if rng.one_in(3) {
+            return callback(rng, flags, mask, &own);
+        }
         let spare = vec![0; 4 * rng.of(&[0, 0, 1, 5])];
         make::long_entry(rng.of(&[0, 1]), flags, mask, &own, &spare)
     };
     let child = |rng: &mut Rng| {
-        make::entry(rng.of(&[0, 1]), rng.of(&[0x08, 0x0B, 0x18]), rng.of(&[0, u32::MAX]), &own)
+        let (flags, mask) = (rng.of(&[0x08, 0x0B, 0x18]), rng.of(&[0, u32::MAX]));
+        if rng.one_in(3) {
+            return callback(rng, flags, mask, &own);
+        }
+        make::entry(rng.of(&[0, 1]), flags, mask, &own)
     };
     match row {
         Row::OneThenOwner | Row::SeveralThenOwner | Row::ButOneThenOwner => vec![counts(rng)],
@@ -189,6 +197,13 @@ fn tail(rng: &mut Rng, row: Row, cast: &Cast, left: u32) -> Vec<Vec<u8>> {
         Row::LastByOwner => vec![make::allow(u32::MAX, &own)],
         Row::Otherwise => otherwise(rng, cast, 0),
     }
+}
+
+/// An entry with a condition that is true or false for everybody.
+fn callback(rng: &mut Rng, flags: u8, mask: u32, sid: &[u8]) -> Vec<u8> {
+    let kind = rng.of(&[expressions::ALLOW, expressions::DENY]);
+    let condition = rng.of(&[expressions::always, expressions::never])();
+    expressions::callback(kind, flags, mask, sid, &condition)
 }
 
 fn nearly_owner_rights(rng: &mut Rng) -> Vec<u8> {

@@ -3,9 +3,11 @@
 //! Nothing here reads what it makes, or knows what the answer should be.
 
 mod children;
+pub mod conditions;
 pub mod crowds;
 mod damage;
 pub mod decided;
+pub mod expressions;
 pub mod hex;
 /// The key by which the library finds identities, as the bench has it.
 #[path = "../../bench/src/key.rs"]

@@ -236,6 +236,11 @@ impl Rule {
         self
     }
 
+    pub fn applies_to(mut self, condition: &[u8]) -> Rule {
+        self.applies_to = condition.to_vec();
+        self
+    }
+
     pub fn sections(&self) -> [&[u8]; 5] {
         [
             &self.applies_to,

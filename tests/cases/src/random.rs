@@ -2,9 +2,11 @@
 //! spoils some of them.
 
 use crate::children;
+use crate::conditions;
 use crate::crowds;
 use crate::damage;
 use crate::decided;
+use crate::expressions;
 use crate::make::{self, Question, Token};
 use crate::numbers;
 use crate::people::{self, People};
@@ -50,6 +52,8 @@ const AIMS: u64 = 3;
 const SEATS: u64 = 16;
 /// One in so many is about words of five bytes.
 const WORDS: u64 = 128;
+/// One in so many is about conditions.
+const CONDITIONS: u64 = 16;
 
 /// What some cases are about, each with its turn.
 #[derive(Clone, Copy, Debug, PartialEq, Eq)]
@@ -59,6 +63,7 @@ pub enum About {
     Decided(u64),
     Seats(u64),
     Words(u64),
+    Conditions(u64),
 }
 
 /// What the case of this number is about, if it has such an aim.
@@ -68,6 +73,9 @@ pub fn about(number: u64) -> Option<About> {
     }
     if number % WORDS == 5 {
         return Some(About::Words(number / WORDS));
+    }
+    if number % CONDITIONS == 9 {
+        return Some(About::Conditions(number / CONDITIONS));
     }
     let (turn, about) = (number / AIMED / AIMS, number / AIMED % AIMS);
     (number % AIMED == 3).then_some(match about {
@@ -89,6 +97,7 @@ pub fn case(seed: u64, number: u64) -> Case {
         Some(About::Decided(turn)) => return decided::case(rng, turn),
         Some(About::Seats(turn)) => return crowds::seats::case(rng, turn),
         Some(About::Words(turn)) => return numbers::words::case(rng, turn),
+        Some(About::Conditions(turn)) => return conditions::case(rng, turn),
         None => {}
     }
     match rng.below(20) {
@@ -356,8 +365,8 @@ fn self_identity(rng: &mut Rng, people: &People) -> Vec<u8> {
 /// The longest list, since its size is a u16.
 const LONGEST_LIST: usize = 65_535;
 
-/// A well-shaped list: types 0 and 1 for a DACL, anything for a SACL. Its entries are not more than
-/// `most`, and it is stretched into no more than `room` bytes.
+/// A well-shaped list: entries that are read for a DACL, anything for a SACL. Its entries are not
+/// more than `most`, and it is stretched into no more than `room` bytes.
 fn list(
     rng: &mut Rng,
     people: &People,
@@ -373,13 +382,16 @@ fn list(
     let mut bytes = vec![rng.of(&[2, 4]), rng.of(&[0, 0, 0xFF]), 0, 0, 0, 0, 0, rng.of(&[0, 7])];
     let mut entries = Vec::new();
     let with_spare = is_dacl && rng.one_in(4);
+    let with_conditions = is_dacl && rng.one_in(4);
     let about_owner = is_dacl && people.are_about_owner();
     // In a list about the owner all entries may have the same flags, but perhaps one of them. In a
     // long one they do, so that the one may matter.
     let alike = about_owner && (count > 8 || rng.one_in(2));
     let alike = alike.then(|| (children::flags(rng), rng.below(2 * count.max(1))));
+    // A condition may have some thousand bytes.
+    let enough = if with_conditions { 30_000 } else { 60_000 };
     for number in 0..count {
-        if bytes.len() > 60_000 {
+        if bytes.len() > enough {
             break;
         }
         entries.push(bytes.len());
@@ -393,7 +405,9 @@ fn list(
         if is_dacl {
             let kind = u8::from(rng.one_in(3));
             let mask = if about_owner { children::mask(rng) } else { entry_mask(rng) };
-            bytes.extend(if with_spare && rng.one_in(2) {
+            bytes.extend(if with_conditions && rng.one_in(2) {
+                callback(rng, people, kind, flags, mask)
+            } else if with_spare && rng.one_in(2) {
                 spare::entry(rng, people, kind, flags, mask)
             } else {
                 make::entry(kind, flags, mask, &people.named(rng))
@@ -424,7 +438,15 @@ fn list(
     (bytes, Place { at: 0, entries, is_dacl })
 }
 
-/// Gives one entry of a list very many spare bytes. The list then fills no more than `room`.
+/// The allow or deny entry that has a condition.
+fn callback(rng: &mut Rng, people: &People, kind: u8, flags: u8, mask: u32) -> Vec<u8> {
+    let condition = conditions::whole(rng, &|rng| people.one_or_virtual(rng));
+    let kind = if kind == 0 { expressions::ALLOW } else { expressions::DENY };
+    expressions::callback(kind, flags, mask, &people.named(rng), &condition)
+}
+
+/// Gives one entry of a list very many spare bytes. The list then fills no more than `room`. A
+/// condition gets padding.
 fn stretch(
     rng: &mut Rng,
     people: &People,
@@ -437,7 +459,8 @@ fn stretch(
     let at = entries[which];
     let size = usize::from(u16::from_le_bytes([bytes[at + 2], bytes[at + 3]]));
     let behind = bytes.split_off(at + size);
-    bytes.extend(spare::many(&spare::stuff(rng, people), more));
+    let stuff = if bytes[at] < 2 { spare::stuff(rng, people) } else { vec![0] };
+    bytes.extend(spare::many(&stuff, more));
     bytes.extend(behind);
     bytes[at + 2..at + 4].copy_from_slice(&((size + more) as u16).to_le_bytes());
     for later in &mut entries[which + 1..] {
@@ -563,11 +586,16 @@ fn policy(rng: &mut Rng, people: &People) -> Option<Vec<LaidRule>> {
 
 /// A rule, whose DACLs may be stretched into `room` bytes.
 pub fn rule(rng: &mut Rng, people: &People, room: usize) -> LaidRule {
+    let applies_to = if rng.one_in(4) {
+        conditions::whole(rng, &|rng| people.one_or_virtual(rng))
+    } else {
+        Vec::new()
+    };
     let mut section =
         |is_dacl, one_in: usize| rng.one_in(one_in).then(|| list(rng, people, is_dacl, 5, room));
     let staged = if people.are_about_owner() { 1 } else { 2 };
     LaidRule {
-        applies_to: Vec::new(),
+        applies_to,
         lists: [section(true, 1), section(false, 6), section(true, staged), section(false, 6)],
     }
 }

@@ -5,7 +5,7 @@
 use crate::lists::{self, end_of_sid, entries, List};
 use crate::who::{OWNER_RIGHTS, PRINCIPAL_SELF};
 use pirasteh_cases::make::{self, Question};
-use pirasteh_cases::Rng;
+use pirasteh_cases::{conditions, expressions, Rng};
 use pirasteh_reference::{self as reference, Answer};
 
 /// What the entries for S-1-3-4 of one list can be. Each has to be reached, in each kind of list.
@@ -40,6 +40,11 @@ pub fn is_inherit_only(entry: &[u8]) -> bool {
 
 pub fn sid_of(entry: &[u8]) -> &[u8] {
     end_of_sid(entry).and_then(|end| entry.get(8..end)).unwrap_or_default()
+}
+
+/// Spare bytes, or a condition.
+pub fn behind_sid(entry: &[u8]) -> &[u8] {
+    end_of_sid(entry).and_then(|end| entry.get(end..)).unwrap_or_default()
 }
 
 pub fn mask_of(entry: &[u8]) -> u32 {
@@ -110,7 +115,7 @@ pub fn matters(q: &Question, list: &List, answer: Answer) -> bool {
         // One that denies nothing stands for it, and counts.
         (true, true) if !some_count => make::deny(0, &OWNER_RIGHTS),
         // It names the owner himself, which matches alike and does not count.
-        (true, false) => make::entry(entry[0], entry[1], mask_of(entry), owner),
+        (true, false) => lists::with_body(entry, owner, behind_sid(entry)),
         _ => entry.to_vec(),
     };
     let other = lists::rewritten(q, |one| {
@@ -172,6 +177,11 @@ fn inherit_only(rng: &mut Rng, sids: &[&[u8]]) -> Vec<u8> {
         4 => &PRINCIPAL_SELF,
         _ => rng.of(sids),
     };
+    if rng.one_in(3) {
+        let condition = conditions::whole(rng, &|rng| rng.of(sids).to_vec());
+        let kind = rng.of(&[expressions::ALLOW, expressions::DENY]);
+        return expressions::callback(kind, flags, mask, sid, &condition);
+    }
     make::entry(rng.of(&[0, 1]), flags, mask, sid)
 }
 

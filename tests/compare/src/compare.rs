@@ -2,6 +2,7 @@
 //! says what does.
 
 use crate::children;
+use crate::conditions;
 use crate::crowds::{self, seats};
 use crate::decided;
 use crate::fence;
@@ -28,16 +29,16 @@ const STATUS: [&str; 13] = [
     "self identity",
     "descriptor shape",
     "no owner",
-    "entry type in the DACL",
+    "entry type or token in the DACL",
     "policy shape",
-    "applies_to or entry type in a rule",
+    "entry type or token in a rule",
     "short buffer",
     "question file",
 ];
 
 /// What has to be reached besides, and all of `children::ROWS` and of the tables of `numbers`,
-/// `rooms`, `crowds`, `decided`, `seats` and `words`.
-const REACHED: [&str; 10] = [
+/// `rooms`, `crowds`, `decided`, `seats`, `words` and `conditions`.
+const REACHED: [&str; 13] = [
     "accepted, with spare bytes in an entry of the descriptor's DACL",
     "accepted, with spare bytes in an entry of an effective DACL",
     "accepted, with spare bytes in an entry of a staged DACL",
@@ -48,13 +49,18 @@ const REACHED: [&str; 10] = [
     "asked once more, with its inherit-only entries taken out",
     "asked once more, with inherit-only entries put in",
     "asked once more, with others for its inherit-only entries",
+    "asked once more, with other conditions in strangers' entries",
+    "asked once more, with strangers' callback entries put in",
+    "asked once more, with strangers' callback entries taken out",
 ];
 const SPARE_TWIN: usize = 6;
 /// The first of `children::Way`.
 const CHILDREN_TWIN: usize = 7;
+/// The first of the ways of `conditions::twin`.
+const CONDITIONS_TWIN: usize = 10;
 
-/// The aims of `rooms`, `crowds`, `decided`, `seats` and `words` are many: a run of fewer cases is
-/// not held to them.
+/// The aims of `rooms`, `crowds`, `decided`, `seats`, `words` and `conditions` are many: a run of
+/// fewer cases is not held to them.
 const ENOUGH_FOR_AIMS: u64 = 500_000;
 
 /// After this many differences the rest is not looked at.
@@ -63,7 +69,7 @@ const ENOUGH: u32 = 5;
 #[derive(Default)]
 struct Tally {
     status: [u64; 13],
-    reached: [u64; 10],
+    reached: [u64; 13],
     children: children::Table,
     numbers: numbers::Table,
     rooms: rooms::Table,
@@ -71,6 +77,7 @@ struct Tally {
     decided: decided::Table,
     seats: seats::Table,
     words: words::Table,
+    conditions: conditions::Table,
     checks: u64,
     files: u64,
     records: u64,
@@ -110,8 +117,8 @@ pub fn many(seed: u64, count: u64) -> bool {
         unreached.extend(tally.aims_unreached());
     } else {
         println!(
-            "not held to rooms, crowds, decided lists, seats and words of five bytes: that takes \
-             {ENOUGH_FOR_AIMS} cases"
+            "not held to rooms, crowds, decided lists, seats, words of five bytes and conditions: \
+             that takes {ENOUGH_FOR_AIMS} cases"
         );
     }
     for what in &unreached {
@@ -200,8 +207,8 @@ fn compare(
     }
 }
 
-/// Now and then an accepted question is asked once more, with other spare bytes in its entries or
-/// with other inherit-only entries.
+/// Now and then an accepted question is asked once more, with other spare bytes in its entries, with
+/// other inherit-only entries, or with other conditions in strangers' entries.
 fn once_more(
     library: &mut Library,
     q: &Question,
@@ -219,6 +226,12 @@ fn once_more(
         if let Some((twin, way)) = children::twin(q, rng) {
             tally.reached[CHILDREN_TWIN + way as usize] += 1;
             still(library, &twin, before, rng, "other inherit-only entries")?;
+        }
+    }
+    if rng.one_in(4) {
+        if let Some((twin, way)) = conditions::twin(q, rng) {
+            tally.reached[CONDITIONS_TWIN + way as usize] += 1;
+            still(library, &twin, before, rng, "other conditions in strangers' entries")?;
         }
     }
     Ok(())
@@ -320,7 +333,7 @@ impl Tally {
         }
     }
 
-    /// Adds an accepted question to the table of what it is about.
+    /// Adds a question to the table of what it is about.
     fn aimed(&mut self, number: u64, q: &Question, expected: &Result<reference::Answer, u32>) {
         match (random::about(number), *expected) {
             (Some(About::Crowds(turn)), Ok(answer)) => self.crowds.add(turn, q, answer),
@@ -328,6 +341,7 @@ impl Tally {
                 decided::add(turn, q, answer, &mut self.decided);
             }
             (Some(About::Seats(turn)), Ok(answer)) => self.seats.add(turn, q, answer),
+            (Some(About::Conditions(turn)), _) => self.conditions.add(turn, q, expected),
             _ => {}
         }
     }
@@ -354,6 +368,7 @@ impl Tally {
         all.extend(decided::unreached(&self.decided));
         all.extend(self.seats.unreached());
         all.extend(self.words.unreached());
+        all.extend(self.conditions.unreached());
         all
     }
 
@@ -383,5 +398,6 @@ impl Tally {
         decided::print(&self.decided);
         self.seats.print();
         self.words.print();
+        self.conditions.print();
     }
 }

@@ -40,7 +40,7 @@ fn list_at(whose: Whose, bytes: &[u8], at: usize) -> Option<List<'_>> {
 }
 
 /// The sections of a policy, five for each rule, without their lengths.
-fn sections(policy: &[u8]) -> Option<Vec<Range<usize>>> {
+pub fn sections(policy: &[u8]) -> Option<Vec<Range<usize>>> {
     let mut all = Vec::new();
     let mut at = 5;
     for _ in 0..5 * u32_at(policy, 1)?.min(256) {
@@ -83,10 +83,25 @@ pub fn entries(list: &[u8]) -> Option<Vec<Range<usize>>> {
     Some(all)
 }
 
-/// How far the SID of an allow or deny entry goes, from the beginning of the entry.
+/// How far the SID of an allow or deny entry goes, from the beginning of the entry. It may have a
+/// condition.
 pub fn end_of_sid(entry: &[u8]) -> Option<usize> {
-    let is_read = entry.len() >= 16 && entry[0] <= 1 && entry[8] == 1 && entry[9] <= 15;
+    let is_read = matches!(entry, [0 | 1 | 9 | 10, ..]);
+    let is_read = is_read && entry.len() >= 16 && entry[8] == 1 && entry[9] <= 15;
     is_read.then(|| 16 + 4 * usize::from(entry[9]))
+}
+
+/// Whether an allow or deny entry has a condition behind its SID, and no spare bytes.
+pub fn is_callback(entry: &[u8]) -> bool {
+    matches!(entry, [9 | 10, ..])
+}
+
+/// The entry with another SID, and with other bytes behind that.
+pub fn with_body(entry: &[u8], sid: &[u8], behind: &[u8]) -> Vec<u8> {
+    let mut out = [&entry[..8], sid, behind].concat();
+    let size = out.len() as u16;
+    out[2..4].copy_from_slice(&size.to_le_bytes());
+    out
 }
 
 /// A list with these entries in place of its own. What stands behind the last stays as it was. None
@@ -99,6 +114,18 @@ pub fn with_entries(list: &[u8], new: &[Vec<u8>]) -> Option<Vec<u8>> {
     out[2..4].copy_from_slice(&size.to_le_bytes());
     out[4..6].copy_from_slice(&count.to_le_bytes());
     Some(out)
+}
+
+/// A question once more, with another applies_to in the rule of this number.
+pub fn with_applies_to(q: &Question, rule: usize, applies_to: &[u8]) -> Option<Question> {
+    let mut other = q.clone();
+    other.policy.truncate(5);
+    for (number, section) in sections(&q.policy)?.into_iter().enumerate() {
+        let bytes = if number == 5 * rule { applies_to } else { &q.policy[section] };
+        other.policy.extend((bytes.len() as u32).to_le_bytes());
+        other.policy.extend(bytes);
+    }
+    Some(other)
 }
 
 const LONGEST_LIST: usize = 65_535;

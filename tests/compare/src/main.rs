@@ -7,6 +7,7 @@
 
 mod children;
 mod compare;
+mod conditions;
 mod crowds;
 mod decided;
 mod fence;

@@ -1,7 +1,7 @@
 //! Spare bytes behind the SIDs of allow and deny entries: where a question has some, and the same
 //! question with others. They never alter an answer.
 
-use crate::lists::{self, end_of_sid, entries, List, Whose};
+use crate::lists::{self, end_of_sid, entries, is_callback, List, Whose};
 use pirasteh_cases::make::Question;
 use pirasteh_cases::Rng;
 use pirasteh_reference as reference;
@@ -29,7 +29,8 @@ pub fn seen(q: &Question) -> Seen {
         };
         for entry in entries(list.bytes).unwrap_or_default() {
             seen.longest = seen.longest.max(entry.len());
-            *found |= end_of_sid(&list.bytes[entry.clone()]).is_some_and(|end| end < entry.len());
+            let whole = &list.bytes[entry.clone()];
+            *found |= !is_callback(whole) && end_of_sid(whole).is_some_and(|end| end < entry.len());
         }
     }
     seen
@@ -89,7 +90,9 @@ fn changed(rng: &mut Rng, way: Way, list: &List) -> Option<Vec<u8>> {
     let mut new = Vec::new();
     for (number, entry) in old.iter().enumerate() {
         let whole = &list.bytes[entry.clone()];
-        let Some(end) = end_of_sid(whole).filter(|&end| end <= whole.len()) else {
+        // What a callback entry has behind its SID is no spare.
+        let end = end_of_sid(whole).filter(|&end| end <= whole.len() && !is_callback(whole));
+        let Some(end) = end else {
             new.push(whole.to_vec());
             continue;
         };

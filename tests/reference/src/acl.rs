@@ -1,23 +1,30 @@
 //! Lists of entries. A list knows nothing of tokens.
 
+use crate::condition::{self, Condition, Fault};
 use crate::sid;
 
 /// Entry types that this edition reads.
-pub const ALLOW: u8 = 0;
-pub const DENY: u8 = 1;
+const ALLOW: u8 = 0;
+const DENY: u8 = 1;
+const CALLBACK_ALLOW: u8 = 9;
+const CALLBACK_DENY: u8 = 10;
 
 /// One entry: its header, and its bytes as they stand, header included.
-#[derive(Clone, Copy)]
 pub struct Entry<'a> {
-    pub kind: u8,
-    pub flags: u8,
+    kind: u8,
+    flags: u8,
     bytes: &'a [u8],
+    /// Of a callback entry of a DACL, if it has no other token.
+    condition: Option<Condition<'a>>,
 }
 
 pub struct Acl<'a> {
     /// The list's size as its header has it.
     pub size: usize,
     pub entries: Vec<Entry<'a>>,
+    /// A DACL has something that this edition does not read: an entry of another type, or another
+    /// token in a condition.
+    pub has_unread_parts: bool,
 }
 
 fn u16_at(bytes: &[u8], at: usize) -> Option<usize> {
@@ -49,49 +56,68 @@ pub fn sacl_at_front(bytes: &[u8]) -> Option<Acl<'_>> {
             return None;
         }
         let entry = rest.get(..entry_size)?;
-        entries.push(Entry { kind: header[0], flags: header[1], bytes: entry });
+        entries.push(Entry { kind: header[0], flags: header[1], bytes: entry, condition: None });
         rest = &rest[entry_size..];
     }
-    Some(Acl { size, entries })
+    Some(Acl { size, entries, has_unread_parts: false })
 }
 
-/// A list at the front of `bytes`, judged as a DACL is: like a SACL, and an allow or deny entry
-/// is a mask and a SID, whole inside the entry. What the entry has behind the SID is spare. Other
-/// types are well shaped by their header and size.
+/// A list at the front of `bytes`, judged as a DACL is: like a SACL, and an entry that is read has
+/// a mask and a SID, whole inside the entry. What an allow or deny entry has behind the SID is
+/// spare; what a callback entry has there is its condition. Other types are well shaped by their
+/// header and size.
 pub fn dacl_at_front(bytes: &[u8]) -> Option<Acl<'_>> {
-    let list = sacl_at_front(bytes)?;
-    for entry in &list.entries {
-        if entry.is_read() {
-            sid::at_front(entry.bytes.get(8..)?)?;
+    let mut list = sacl_at_front(bytes)?;
+    for entry in &mut list.entries {
+        if !entry.is_read() {
+            list.has_unread_parts = true;
+            continue;
+        }
+        let behind_mask = entry.bytes.get(8..)?;
+        let sid = sid::at_front(behind_mask)?;
+        if entry.is_callback() {
+            match condition::read(&behind_mask[sid.len()..]) {
+                Ok(condition) => entry.condition = Some(condition),
+                Err(Fault::Broken) => return None,
+                Err(Fault::OtherToken) => list.has_unread_parts = true,
+            }
         }
     }
     Some(list)
 }
 
+/// What is said of an entry here holds of one that is read, in a well-shaped DACL without unread
+/// parts.
 impl<'a> Entry<'a> {
-    /// Allow and deny entries are read, others are not.
-    pub fn is_read(&self) -> bool {
-        self.kind == ALLOW || self.kind == DENY
+    /// Allow and deny entries are read, with a condition or without; others are not.
+    fn is_read(&self) -> bool {
+        matches!(self.kind, ALLOW | DENY) || self.is_callback()
+    }
+
+    fn is_callback(&self) -> bool {
+        matches!(self.kind, CALLBACK_ALLOW | CALLBACK_DENY)
+    }
+
+    pub fn is_deny(&self) -> bool {
+        matches!(self.kind, DENY | CALLBACK_DENY)
     }
 
     pub fn is_inherit_only(&self) -> bool {
         self.flags & 0x08 != 0
     }
 
-    /// The mask as stored. Only for a read entry of a well-shaped DACL.
+    /// The mask as stored.
     pub fn mask(&self) -> u32 {
         u32::from_le_bytes([self.bytes[4], self.bytes[5], self.bytes[6], self.bytes[7]])
     }
 
-    /// The identity, without the spare bytes behind it. Only for a read entry of a well-shaped
-    /// DACL.
+    /// The identity, without what stands behind it.
     pub fn sid(&self) -> &'a [u8] {
         sid::at_front(&self.bytes[8..]).expect("a well-shaped DACL has a SID here")
     }
-}
 
-impl Acl<'_> {
-    pub fn has_other_types(&self) -> bool {
-        self.entries.iter().any(|entry| !entry.is_read())
+    /// Whether its condition is true, or it has none.
+    pub fn speaks(&self, is_member: impl Fn(&[u8]) -> bool) -> bool {
+        self.condition.as_ref().is_none_or(|condition| condition.holds(is_member))
     }
 }

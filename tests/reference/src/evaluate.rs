@@ -1,7 +1,7 @@
 //! From well-shaped parts to an answer: matching, the pass over a list, normal evaluation,
 //! confinement, rules.
 
-use crate::acl::{Acl, DENY};
+use crate::acl::Acl;
 use crate::masks::{self, Rights, MAXIMUM};
 use crate::policy::Rule;
 use crate::sid;
@@ -72,17 +72,23 @@ fn matches(setting: &Setting, listed: &[Listed], sid: &[u8]) -> Match {
     matches_directly(listed, meant)
 }
 
-/// One pass over a list: each bit is decided by the first matching entry that has it.
+/// Membership, in a condition: matching for allow among those listed.
+fn is_member(setting: &Setting, listed: &[Listed], sid: &[u8]) -> bool {
+    matches(setting, listed, sid).allow
+}
+
+/// One pass over a list: each bit is decided by the first matching entry that has it. An entry
+/// whose condition is false says nothing.
 fn pass(setting: &Setting, listed: &[Listed], list: &Acl) -> u32 {
     let mut decided = 0;
     let mut allowed = 0;
     for entry in &list.entries {
-        if entry.is_inherit_only() {
+        if entry.is_inherit_only() || !entry.speaks(|sid| is_member(setting, listed, sid)) {
             continue;
         }
         let found = matches(setting, listed, entry.sid());
         let mask = setting.rights.of_entry(entry.mask());
-        if entry.kind == DENY {
+        if entry.is_deny() {
             if found.deny {
                 decided |= mask;
             }
@@ -94,8 +100,8 @@ fn pass(setting: &Setting, listed: &[Listed], list: &Acl) -> u32 {
     allowed
 }
 
-/// Whether some entry of a list names S-1-3-4, allow or deny and whatever its mask. An inherit-only
-/// entry says nothing about the object itself, and does not count.
+/// Whether some entry of a list names S-1-3-4, allow or deny and whatever its mask and its
+/// condition. An inherit-only entry says nothing about the object itself, and does not count.
 fn speaks_for_owner(list: &Acl) -> bool {
     list.entries.iter().any(|entry| !entry.is_inherit_only() && entry.sid() == sid::OWNER_RIGHTS)
 }
@@ -144,7 +150,8 @@ pub fn answer(setting: &Setting, mask: u32, dacl: Option<&Acl>, rules: &[Rule]) 
 
     let mut granted = asked & normal(setting, dacl) & confinement(setting, dacl);
     let mut staged = false;
-    for rule in rules {
+    let listed = normal_identities(setting.token);
+    for rule in rules.iter().filter(|rule| rule.applies(|sid| is_member(setting, &listed, sid))) {
         let effective = normal(setting, Some(&rule.effective));
         granted &= effective;
         if let Some(list) = &rule.staged {

@@ -1,12 +1,13 @@
 //! The access check once more, in plain Rust.
 //!
-//! Written from document 01 alone, with requests 101 and 102 of document 02, and not from the
+//! Written from document 01 alone, with requests 101, 102 and 103 of document 02, and not from the
 //! proved library, so that the two can be compared. It is meant to be read: it copies and allocates
 //! freely, and every step stands where the document has it. For speed look elsewhere.
 //!
 //! Refusals are the document's numbers as they are, in `Err`.
 
 mod acl;
+mod condition;
 mod descriptor;
 mod evaluate;
 mod file;
@@ -67,10 +68,8 @@ pub fn check(
 
     let descriptor = descriptor::read(descriptor).ok_or(refused::DESCRIPTOR_SHAPE)?;
     let owner = descriptor.owner.ok_or(refused::NO_OWNER)?;
-    if let Some(dacl) = &descriptor.dacl {
-        if dacl.has_other_types() {
-            return Err(refused::DACL_TYPE);
-        }
+    if descriptor.dacl.as_ref().is_some_and(|dacl| dacl.has_unread_parts) {
+        return Err(refused::DACL_TYPE);
     }
 
     let rules = policy::read(policy).ok_or(refused::POLICY_SHAPE)?;

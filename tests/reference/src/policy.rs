@@ -1,20 +1,39 @@
 //! The policy: rules of five sections each.
 
 use crate::acl::{self, Acl};
+use crate::condition::{self, Condition, Fault};
 
 pub struct Rule<'a> {
-    has_applies_to: bool,
+    applies_to: AppliesTo<'a>,
     pub effective: Acl<'a>,
     /// None if the section is empty.
     pub staged: Option<Acl<'a>>,
 }
 
+/// To whom a rule applies.
+enum AppliesTo<'a> {
+    /// The section is empty.
+    Everybody,
+    Those(Condition<'a>),
+    /// It has another token.
+    Unread,
+}
+
 impl Rule<'_> {
     /// It has something that this edition does not read.
     pub fn has_unread_parts(&self) -> bool {
-        self.has_applies_to
-            || self.effective.has_other_types()
-            || self.staged.as_ref().is_some_and(Acl::has_other_types)
+        matches!(self.applies_to, AppliesTo::Unread)
+            || self.effective.has_unread_parts
+            || self.staged.as_ref().is_some_and(|list| list.has_unread_parts)
+    }
+
+    /// Whether it applies. Only for a rule without unread parts.
+    pub fn applies(&self, is_member: impl Fn(&[u8]) -> bool) -> bool {
+        match &self.applies_to {
+            AppliesTo::Everybody => true,
+            AppliesTo::Those(condition) => condition.holds(is_member),
+            AppliesTo::Unread => unreachable!("a policy with unread parts is refused"),
+        }
     }
 }
 
@@ -48,6 +67,21 @@ fn sacl_is_well_shaped(section: &[u8]) -> bool {
     section.is_empty() || whole(section, acl::sacl_at_front(section)).is_some()
 }
 
+/// The first section of a rule. None if it is too long, or broken.
+fn read_applies_to(section: &[u8]) -> Option<AppliesTo<'_>> {
+    if section.len() > LONGEST_APPLIES_TO {
+        return None;
+    }
+    if section.is_empty() {
+        return Some(AppliesTo::Everybody);
+    }
+    match condition::read(section) {
+        Ok(condition) => Some(AppliesTo::Those(condition)),
+        Err(Fault::Broken) => None,
+        Err(Fault::OtherToken) => Some(AppliesTo::Unread),
+    }
+}
+
 /// Reads a whole policy. No bytes are a policy without rules. None if it is misshapen.
 pub fn read(bytes: &[u8]) -> Option<Vec<Rule<'_>>> {
     let mut rules = Vec::new();
@@ -66,10 +100,7 @@ pub fn read(bytes: &[u8]) -> Option<Vec<Rule<'_>>> {
         return None;
     }
     for _ in 0..count {
-        let applies_to = take_section(rest)?;
-        if applies_to.len() > LONGEST_APPLIES_TO {
-            return None;
-        }
+        let applies_to = read_applies_to(take_section(rest)?)?;
         let section = take_section(rest)?;
         let effective = whole(section, acl::dacl_at_front(section))?;
         if !sacl_is_well_shaped(take_section(rest)?) {
@@ -84,7 +115,7 @@ pub fn read(bytes: &[u8]) -> Option<Vec<Rule<'_>>> {
         if !sacl_is_well_shaped(take_section(rest)?) {
             return None;
         }
-        rules.push(Rule { has_applies_to: !applies_to.is_empty(), effective, staged });
+        rules.push(Rule { applies_to, effective, staged });
     }
     if !rest.is_empty() {
         return None;

@@ -2,6 +2,7 @@
 //! file owned by W, and U asks, unless said.
 
 mod children;
+mod conditions;
 mod confinement;
 mod crowds;
 mod decided;
@@ -32,6 +33,7 @@ pub fn cases() -> Vec<Case> {
     all.extend(children::cases());
     all.extend(walks::cases());
     all.extend(confinement::cases());
+    all.extend(conditions::cases());
     all.extend(numbers::cases());
     all.extend(crowds::cases());
     all.extend(decided::cases());

@@ -82,6 +82,7 @@ mod tests {
     use super::*;
     use case::Body;
     use pirasteh_reference as reference;
+    use std::collections::HashSet;
 
     #[test]
     fn the_reference_agrees() {
@@ -119,12 +120,11 @@ mod tests {
     #[test]
     fn no_two_cases_are_the_same() {
         for (name, _, cases) in files() {
-            for (i, case) in cases.iter().enumerate() {
-                for other in &cases[..i] {
-                    assert_ne!(case.reason, other.reason, "{name}");
-                    let same = case.text().lines().nth(1) == other.text().lines().nth(1);
-                    assert!(!same, "{name}: {} / {}", case.reason, other.reason);
-                }
+            let (mut reasons, mut bytes) = (HashSet::new(), HashSet::new());
+            for case in &cases {
+                assert!(reasons.insert(&case.reason), "{name}: {}", case.reason);
+                let second = case.text().lines().nth(1).map(str::to_string);
+                assert!(bytes.insert(second), "{name}: {}", case.reason);
             }
         }
     }
@@ -136,6 +136,17 @@ mod tests {
         for (name, _, cases) in files() {
             let line = format!("{name}: {} cases, 0 differ", cases.len());
             assert!(counted.lines().any(|l| l == line), "crates/vectors/stdout lacks `{line}`");
+        }
+    }
+
+    /// The proved program reads a file into a buffer of this length.
+    const ROOM: usize = 524_288;
+
+    #[test]
+    fn the_proved_program_has_room_for_them() {
+        for (name, head, cases) in files() {
+            let length = text(head, &cases).len();
+            assert!(length < ROOM, "{name} has {length} bytes");
         }
     }
 

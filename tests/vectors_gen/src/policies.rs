@@ -1,5 +1,7 @@
 //! Policies at each limit of their shape, and what rules do. The question is c1's unless said.
 
+mod conditions;
+
 use crate::case::*;
 use pirasteh_cases::hex;
 use pirasteh_cases::make::{self, acl, allow, bare_entry, deny, policy, Descriptor, Rule};
@@ -25,6 +27,7 @@ pub fn cases() -> Vec<Case> {
     all.extend(rules());
     all.extend(long_entries());
     all.extend(owners());
+    all.extend(conditions::cases());
     all
 }
 

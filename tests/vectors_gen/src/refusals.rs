@@ -1,5 +1,6 @@
 //! Each refusal but 11, from both sides, and which of two is given.
 
+mod conditions;
 mod numbers;
 
 use crate::case::*;
@@ -15,6 +16,7 @@ pub fn cases() -> Vec<Case> {
     all.extend(policy());
     all.extend(file());
     all.extend(numbers::cases());
+    all.extend(conditions::cases());
     all
 }
 
@@ -301,8 +303,13 @@ fn descriptor() -> Vec<Case> {
             refused(8),
         ),
         ask(
-            "8: an inherit-only entry of type 9",
+            "6: an inherit-only entry of type 9 without a condition",
             c1().descriptor(owned(acl(&[make::entry(9, 0x08, 1, &u())]))),
+            refused(6),
+        ),
+        ask(
+            "8: an inherit-only entry of type 11",
+            c1().descriptor(owned(acl(&[make::entry(11, 0x08, 1, &u())]))),
             refused(8),
         ),
         ask(
@@ -328,14 +335,14 @@ fn policy() -> Vec<Case> {
     let odd = acl(&[bare_entry(5, 0, &[])]);
     let plain = acl(&[allow(0x8000_0000, &u())]);
     let rules = |rules: &[Rule]| c1().policy(make::policy(rules));
-    let with_applies_to = Rule { applies_to: vec![0x61], ..Rule::of(&plain) };
+    let for_some = |applies_to: &[u8]| Rule::of(&plain).applies_to(applies_to);
     let empty = Rule::default();
     vec![
         ask("9: one byte", c1().policy(vec![1]), refused(9)),
         ask("9: version 2", c1().policy(hex::bytes("02 00 00 00 00")), refused(9)),
         ask(
-            "9 before 10: a rule with an applies_to, and one without effective DACL behind it",
-            rules(&[with_applies_to.clone(), empty.clone()]),
+            "9 before 10: an applies_to with another token, and a rule without effective DACL",
+            rules(&[for_some(b"artx\xF8"), empty.clone()]),
             refused(9),
         ),
         ask(
@@ -343,7 +350,11 @@ fn policy() -> Vec<Case> {
             c1().policy(followed_by(make::policy(&[Rule::of(&odd)]), &[0])),
             refused(9),
         ),
-        ask("10: an applies_to of one byte", rules(&[with_applies_to]), refused(10)),
+        ask(
+            "9: an applies_to of one byte, which is no condition",
+            rules(&[for_some(b"a")]),
+            refused(9),
+        ),
         ask("10: an entry of type 5 in the effective DACL", rules(&[Rule::of(&odd)]), refused(10)),
         ask(
             "10: an entry of type 5 in the staged DACL",
@@ -356,8 +367,13 @@ fn policy() -> Vec<Case> {
             refused(10),
         ),
         ask(
-            "10: an inherit-only entry of type 9",
+            "9: an inherit-only entry of type 9 without a condition",
             rules(&[Rule::of(&acl(&[make::entry(9, 0x08, 1, &u())]))]),
+            refused(9),
+        ),
+        ask(
+            "10: an inherit-only entry of type 11",
+            rules(&[Rule::of(&acl(&[make::entry(11, 0x08, 1, &u())]))]),
             refused(10),
         ),
         ask(

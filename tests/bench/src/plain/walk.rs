@@ -1,5 +1,6 @@
 //! One walk over a list: its shape is judged and its entries are taken.
 
+use super::condition::{self, Fault};
 use super::{is_virtual, map, u16_at, u32_at, OWNER_RIGHTS, PRINCIPAL_SELF};
 
 /// Whether an identity is one of these. Lengths are compared first, then the last words, since
@@ -38,7 +39,7 @@ impl<'a> Party<'a> {
     }
 
     #[inline]
-    fn matches(&self, sid: &[u8], deny: bool) -> bool {
+    pub fn matches(&self, sid: &[u8], deny: bool) -> bool {
         if sid.len() == 12 {
             if sid == OWNER_RIGHTS {
                 return self.owner[usize::from(deny)];
@@ -60,7 +61,8 @@ struct Tally {
 /// What a walk over a list found.
 #[derive(Default)]
 pub struct Walked {
-    pub other_type: bool,
+    /// It has an entry of another type, or another token.
+    pub unread: bool,
     names_owner: bool,
     normal: u32,
     pub confined: u32,
@@ -106,8 +108,8 @@ pub fn sacl(bytes: &[u8]) -> Option<usize> {
     Some(size)
 }
 
-/// Judges a DACL's shape and takes its entries. Gives its size too.
-pub fn dacl(setting: &Setting, confine: bool, bytes: &[u8]) -> Option<(usize, Walked)> {
+/// Judges a DACL's shape and takes what its entries say of the bits asked. Gives its size too.
+pub fn dacl(setting: &Setting, asked: u32, confine: bool, bytes: &[u8]) -> Option<(usize, Walked)> {
     let (size, count) = acl_header(bytes)?;
     let list = &bytes[..size];
     let mut walked = Walked::default();
@@ -119,15 +121,32 @@ pub fn dacl(setting: &Setting, confine: bool, bytes: &[u8]) -> Option<(usize, Wa
         let size = entry_size(list, at)?;
         let entry = &list[at..at + size];
         at += size;
-        if entry[0] > 1 {
-            walked.other_type = true;
-            continue;
-        }
+        let (deny, callback) = match entry[0] {
+            0 => (false, false),
+            1 => (true, false),
+            9 => (false, true),
+            10 => (true, true),
+            _ => {
+                walked.unread = true;
+                continue;
+            }
+        };
         if size < 16 || entry[8] != 1 || entry[9] > 15 {
             return None;
         }
-        // What the entry has behind its SID is spare.
+        // What the entry has behind its SID is spare, or its condition.
         let sid = entry.get(8..16 + 4 * usize::from(entry[9]))?;
+        let condition = &entry[8 + sid.len()..];
+        if callback {
+            match condition::judge(condition) {
+                Ok(()) => {}
+                Err(Fault::Broken) => return None,
+                Err(Fault::OtherToken) => {
+                    walked.unread = true;
+                    continue;
+                }
+            }
+        }
         // An inherit-only entry says nothing about the object itself.
         let inherit_only = entry[1] & 0x08 != 0;
         if sid.len() == 12 && sid == OWNER_RIGHTS {
@@ -136,16 +155,18 @@ pub fn dacl(setting: &Setting, confine: bool, bytes: &[u8]) -> Option<(usize, Wa
         if inherit_only {
             continue;
         }
-        let mask = map(setting.rights, u32_at(entry, 4)) & setting.asked;
-        let deny = entry[0] == 1;
+        let mask = map(setting.rights, u32_at(entry, 4)) & asked;
+        let speaks = |party: &Party| {
+            party.matches(sid, deny) && (!callback || condition::holds(condition, party))
+        };
         let new = mask & !normal.decided;
-        if new != 0 && setting.normal.matches(sid, deny) {
+        if new != 0 && speaks(&setting.normal) {
             normal.decided |= new;
             normal.allowed |= if deny { 0 } else { new };
         }
         if let Some(party) = party {
             let new = mask & !confined.decided;
-            if new != 0 && party.matches(sid, deny) {
+            if new != 0 && speaks(party) {
                 confined.decided |= new;
                 confined.allowed |= if deny { 0 } else { new };
             }

@@ -115,7 +115,7 @@ fn others() -> Vec<Case> {
         ),
         ask(
             "other systems: a deny of a type that is not known is not skipped (Samba)",
-            on_list(tu(), 1, &[entry(10, 0, 1, &u()), allow(1, &u())]),
+            on_list(tu(), 1, &[entry(12, 0, 1, &u()), allow(1, &u())]),
             refused(8),
         ),
         ask(

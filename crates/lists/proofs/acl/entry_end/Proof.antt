@@ -26,43 +26,50 @@ returns-2 c =
     let s = ap (λ (t : Bool). entryEnd t (a .l .now) (a .at)) (not-true (a .deep) (c .if2 .taken)) in
     (e ∙ sym (s ∙ entry-end-shallow (a .l .now) (a .at)), omega arith)
 
-shared-slice-read-if3 : tie.Need-shared-slice-read-if3
-shared-slice-read-if3 c =
+shared-slice-read-is-named : tie.Need-shared-slice-read-is-named
+shared-slice-read-is-named c =
     let a = c .before .before .before .before .before .args in
     let e = c .before .before .before .head-end .ensures .0 in
     let b = head-end-bounds (a .l .now) (a .at) (λ q. c .before .before .if1 .left (e ∙ q)) in
     omega (arith, b .0, b .1)
 
+is-named-requires : tie.Need-is-named-requires
+is-named-requires c κs = search needs
+
 returns-3 : tie.Need-returns-3
 returns-3 c =
-    let a = c .before .before .before .before .before .before .args in
-    let e = c .before .before .before .before .head-end .ensures .0 in
-    (e ∙ sym (entry-end-foreign (a .deep) (a .l .now) (a .at) (omega arith)), omega arith)
+    let a = c .before .before .before .before .before .before .before .args in
+    let e = c .before .before .before .before .before .head-end .ensures .0 in
+    let k = sym (c .before .is-named .ensures) ∙ not-true _ (c .if3 .taken) in
+    (e ∙ sym (entry-end-foreign (a .deep) (a .l .now) (a .at) k), omega arith)
 
 holds-requires : tie.Need-holds-requires
 holds-requires c κs =
-    let a = c .before .before .before .before .before .before .args in
-    let e = c .before .before .before .before .head-end .ensures .0 in
-    let b = head-end-bounds (a .l .now) (a .at) (λ q. c .before .before .before .if1 .left (e ∙ q)) in
+    let a = c .before .before .before .before .before .before .before .args in
+    let e = c .before .before .before .before .before .head-end .ensures .0 in
+    let b = head-end-bounds (a .l .now) (a .at) (λ q. c .before .before .before .before .if1 .left (e ∙ q)) in
     (omega (arith, b .0, e), omega (arith, b .1, e))
 
 returns-4 : tie.Need-returns-4
 returns-4 c =
-    let a = c .before .before .before .before .before .before .before .before .args in
-    let e = c .before .before .before .before .before .before .head-end .ensures .0 in
+    let a = c .before .before .before .before .before .before .before .before .before .args in
+    let e = c .before .before .before .before .before .before .before .head-end .ensures .0 in
+    let k = sym (c .before .before .before .is-named .ensures) ∙ not-false _ (c .before .before .if3 .left) in
     let h = sym (ap (holds (a .l .now) (a .at)) e) ∙ sym (c .before .holds .ensures) ∙ c .if4 .taken in (
-      e ∙ sym (ap (λ (t : Bool). entryEnd t (a .l .now) (a .at)) (not-false (a .deep) (c .before .before .before .before .if2 .left))
-          ∙ entry-end-named (a .l .now) (a .at) (omega arith) ∙ ap (λ (t : Bool). cond t (headEnd (a .l .now) (a .at)) 0) h),
+      e
+          ∙ sym (ap (λ (t : Bool). entryEnd t (a .l .now) (a .at)) (not-false (a .deep) (c .before .before .before .before .before .if2 .left))
+          ∙ entry-end-named (a .l .now) (a .at) k ∙ ap (λ (t : Bool). cond t (headEnd (a .l .now) (a .at)) 0) h),
       omega arith,
     )
 
 returns-5 : tie.Need-returns-5
 returns-5 c =
-    let a = c .before .before .before .before .before .before .before .before .args in
-    let e = c .before .before .before .before .before .before .head-end .ensures .0 in
+    let a = c .before .before .before .before .before .before .before .before .before .args in
+    let e = c .before .before .before .before .before .before .before .head-end .ensures .0 in
+    let k = sym (c .before .before .before .is-named .ensures) ∙ not-false _ (c .before .before .if3 .left) in
     let h = sym (ap (holds (a .l .now) (a .at)) e) ∙ sym (c .before .holds .ensures) ∙ c .if4 .left in (
-      sym (ap (λ (t : Bool). entryEnd t (a .l .now) (a .at)) (not-false (a .deep) (c .before .before .before .before .if2 .left))
-          ∙ entry-end-named (a .l .now) (a .at) (omega arith) ∙ ap (λ (t : Bool). cond t (headEnd (a .l .now) (a .at)) 0) h),
+      sym (ap (λ (t : Bool). entryEnd t (a .l .now) (a .at)) (not-false (a .deep) (c .before .before .before .before .before .if2 .left))
+          ∙ entry-end-named (a .l .now) (a .at) k ∙ ap (λ (t : Bool). cond t (headEnd (a .l .now) (a .at)) 0) h),
       omega arith,
     )
 
@@ -73,7 +80,8 @@ entry-end-spec =
     head-end-requires
     returns
     returns-2
-    shared-slice-read-if3
+    shared-slice-read-is-named
+    is-named-requires
     returns-3
     holds-requires
     returns-4

@@ -5,7 +5,7 @@ use native.Mathlib.Omega.{arith}
 use borrow.Author.Needs.{needs}
 use Rattle.lists.specs.declared.descriptor.Piece.the-variants.{At}
 use Rattle.lists.proofs.DescriptorSteps.{sid-piece-absent, sid-piece-low, sid-piece-bad, sid-piece-at}
-use Rattle.lists.proofs.SidLaws.{sid-end-bounds}
+use Rattle.sids.proofs.SidLaws.{sid-end-bounds}
 use Rattle.lists.proofs.descriptor.sid_piece.Statement.{statement}
 use Rattle.lists.proofs.descriptor.sid_piece.Tie as tie
 

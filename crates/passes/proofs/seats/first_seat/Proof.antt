@@ -3,8 +3,8 @@
 use mathlib.Core.Path.{_≡_, sym, ap, _∙_}
 use native.Mathlib.Omega.{arith}
 use borrow.Author.Needs.{needs}
-use Rattle.lists.proofs.SidLaws.{sid-end-bounds}
-use Rattle.lists.specs.Sid.{sidEnd}
+use Rattle.sids.proofs.SidLaws.{sid-end-bounds}
+use Rattle.sids.specs.Sid.{sidEnd}
 use Rattle.passes.specs.declared.seats.Seat.{Seat}
 use Rattle.passes.proofs.SeatsLaws.{first-seat-none, first-seat-some}
 use Rattle.passes.proofs.seats.first_seat.Statement.{statement}

@@ -4,8 +4,8 @@ use mathlib.Core.Path.{_≡_, sym, ap, _∙_}
 use native.Mathlib.Omega.{arith}
 use borrow.Author.Needs.{needs}
 use borrow.Author.Tests.{not-true, not-false}
-use Rattle.lists.proofs.SidLaws.{sid-end-bounds}
-use Rattle.lists.specs.Sid.{sidEnd}
+use Rattle.sids.proofs.SidLaws.{sid-end-bounds}
+use Rattle.sids.specs.Sid.{sidEnd}
 use Rattle.passes.specs.Seats.{allowWord, denyWord}
 use Rattle.passes.specs.declared.seats.Seat.{Seat}
 use Rattle.passes.proofs.SeatsLaws.{seat-at-none, seat-at-plain, seat-at-word}

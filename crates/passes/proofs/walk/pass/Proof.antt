@@ -9,13 +9,13 @@ use mathlib.Core.Path.{_≡_, refl, sym, ap, _∙_}
 use native.Mathlib.Omega.{arith}
 use borrow.Author.Needs.{needs}
 use borrow.Author.Tests.{not-true, not-false}
-use lib.Dec.{eqb}
 use lib.ListN.{length}
 use Rattle.base.specs.Bits.{has}
 use Rattle.base.specs.Bytes.{same, part}
-use Rattle.lists.specs.Acl.{Entry, entryOf}
+use Rattle.conditions.specs.Membership.{admits}
+use Rattle.lists.specs.Acl.{Entry, conditionOf, entryOf}
 use Rattle.lists.specs.ByLength.{entriesByLengthAt, entriesByLength}
-use Rattle.lists.specs.Sid.{ownerRights, virtual}
+use Rattle.sids.specs.Sid.{ownerRights, virtual}
 use Rattle.lists.specs.declared.acl.Ace.{Ace}
 use Rattle.records.specs.Crowd.{Member}
 use Rattle.masks.specs.TheTally.{idle}
@@ -23,7 +23,7 @@ use Rattle.masks.specs.declared.tally.Tally.{Tally}
 use Rattle.passes.specs.Chains.{near, chain, shown}
 use Rattle.passes.specs.Matching.{among}
 use Rattle.passes.specs.NormalEvaluation.{counts}
-use Rattle.passes.specs.OnePass.{taken}
+use Rattle.passes.specs.OnePass.{allows, member, taken}
 use Rattle.passes.specs.OneWalk.{walkedFrom, walkedOf}
 use Rattle.passes.specs.declared.matching.Hits.{Hits}
 use Rattle.passes.proofs.ChainsLaws.{among-start, chain-none, chain-hit, chain-near, chain-more, far-below}
@@ -35,11 +35,11 @@ use Rattle.passes.proofs.walk.pass.Statement.{statement}
 use Rattle.passes.proofs.walk.pass.Tie as tie
 
 abbrev Inv-search : tie.InvT-search
-Inv-search kind list listing heads seats hits entries all t named k place from to who allow first mask word n₀ n =
+Inv-search kind list listing heads seats hits entries all t named k place from to who class allow first mask word n₀ n =
     (n ≤ length seats - 1) × (among allow (shown heads seats listing) who ≡ among allow (chain seats listing n n) who)
 
 abbrev μ-search : tie.MeasureT-search
-μ-search kind list listing heads seats hits entries all t named k place from to who allow first mask word n₀ n = n
+μ-search kind list listing heads seats hits entries all t named k place from to who class allow first mask word n₀ n = n
 
 abbrev Inv-entries : tie.InvT-entries
 Inv-entries kind list listing heads seats hits entries all t₀ named₀ k₀ place₀ t named k place =
@@ -90,6 +90,9 @@ who-of p = part (list-of p) (ace-of p .from) (ace-of p .to)
 abbrev entry-of : Standing → Entry
 entry-of p = entryOf (list-of p) (ace-of p)
 
+abbrev admitted-of : Standing → Bool
+admitted-of p = admits (member (crowd-of p) (hits-of p)) (conditionOf (list-of p) (ace-of p))
+
 -- the invariant of the entries, one turn on
 abbrev Next : Standing → Tally → Bool → Type 0
 Next p t named =
@@ -114,7 +117,7 @@ on p t named e f =
 
 -- the entry names no virtual identity
 other-in : (c : tie.Else3 Inv-search μ-search Inv-entries μ-entries) → virtual (who-of
-    (c .before .before .before .before .before .before)) ≡ false
+    (c .before .before .before .before .before)) ≡ false
 other-in c = sym (c .before .is-virtual .ensures) ∙ c .if3 .left
 
 -- ---- the needs, in the order of the code
@@ -179,6 +182,9 @@ virtual-matches-requires :
     tie.Need-virtual-matches-requires Inv-search μ-search Inv-entries μ-entries
 virtual-matches-requires c κs = search needs
 
+speaks-requires : tie.Need-speaks-requires Inv-search μ-search Inv-entries μ-entries
+speaks-requires c κs = search needs
+
 step-requires : tie.Need-step-requires Inv-search μ-search Inv-entries μ-entries
 step-requires c κs = search needs
 
@@ -189,28 +195,28 @@ entries-again-2 : tie.Need-entries-again-2 Inv-search μ-search Inv-entries μ-e
 entries-again-2 c =
     let p = c .before .before .before .before .before .before .before .before .before .before in
     let f = c .before .before .before .before .before .before .before .before .before .counts in
-    let m = c .before .before .entry-mask in
-    let v = c .before .virtual-matches in
+    let m = c .before .before .before .entry-mask in
+    let v = c .before .before .virtual-matches in
+    let q = c .before .speaks in
     let counted = not-true (has (ace-of p .flags) 0x08) (sym (f .ensures) ∙ not-false (f .result)
     (c .before .before .before .before .before .before .before .before .if2 .left)) in
-    let mine = matches-virtual (eqb (ace-of p .kind) 0) (crowd-of p) (who-of p) (hits-of p)
-    (sym (c .before .before .before .before .before .is-virtual .ensures) ∙ c .before .before .before .before .if3 .taken) in
-    on p (c .step .result) (c .before .before .before .names .result) (c .before .before .before .names .ensures ∙ names-counted
+    let mine = matches-virtual (allows (entry-of p)) (crowd-of p) (who-of p) (hits-of p)
+    (sym (c .before .before .before .before .before .before .is-virtual .ensures) ∙ c .before .before .before .before .before .if3 .taken) in
+    on p (c .step .result) (c .before .before .before .before .names .result) (c .before .before .before .before .names .ensures ∙ names-counted
     (named-of p) (entry-of p) counted)
     (c .step .ensures
-    ∙ taken-by (kind-of p) (crowd-of p) (hits-of p) (tally-of p) (entry-of p) (v .result) (m .result .0) (m .ensures) counted
-    (v .ensures ∙ sym mine))
+    ∙ taken-by (kind-of p) (crowd-of p) (hits-of p) (tally-of p) (entry-of p) (q .result) (m .result .0) (m .ensures) counted
+    (q .ensures ∙ ap (λ (t : Bool). t && admitted-of p) (v .ensures ∙ sym mine)))
 
 entries-less-3 : tie.Need-entries-less-3 Inv-search μ-search Inv-entries μ-entries
 entries-less-3 c = search needs
 
 entries-again-3 : tie.Need-entries-again-3 Inv-search μ-search Inv-entries μ-entries
 entries-again-3 c =
-    let p = c .before .before .before .before .before .before .before .before .before in
+    let p = c .before .before .before .before .before .before .before .before in
     on p (tally-of p) (named-of p) (names-other (named-of p) (entry-of p) (other-in (c .before .before .before)))
     (sym (taken-full (kind-of p) (crowd-of p) (hits-of p) (tally-of p) (entry-of p)
-    (c .if4 .taken ∙ c .before .before .before .before .before .before .before .before .before .before .before .before .before .before
-    .all-bits .ensures)))
+    (c .if4 .taken ∙ c .before .before .before .before .before .before .before .before .before .before .before .before .before .all-bits .ensures)))
 
 head-requires : tie.Need-head-requires Inv-search μ-search Inv-entries μ-entries
 head-requires c κs = search needs
@@ -220,10 +226,10 @@ entries-less-4 c = search needs
 
 entries-again-4 : tie.Need-entries-again-4 Inv-search μ-search Inv-entries μ-entries
 entries-again-4 c =
-    let p = c .before .before .before .before .before .before .before .before .before .before .before in
+    let p = c .before .before .before .before .before .before .before .before .before .before in
     let a = p .before .before .before .before .before .before .before .before .before .before .args in
     let h = c .before .head in
-    let allow = eqb (ace-of p .kind) 0 in
+    let allow = allows (entry-of p) in
     let other = other-in (c .before .before .before .before .before) in
     let none = among-start allow (a .heads .now) (a .seats .now) (a .listing .now) (who-of p) (h .result) (h .ensures .0)
     ∙ chain-none allow (a .seats .now) (a .listing .now) (who-of p) (h .result) (c .if5 .taken) in
@@ -242,7 +248,7 @@ entries-less-5 c = search needs
 
 entries-again-5 : tie.Need-entries-again-5 Inv-search μ-search Inv-entries μ-entries
 entries-again-5 c =
-    let p = c .before .before .before .before .before .before .before .before .before .before .before .before .before .before in
+    let p = c .before .before .before .before .before .before .before .before .before .before .before .before .before in
     let m = c .before .before .entry-mask2 in
     on p (tally-of p) (named-of p) (names-other (named-of p) (entry-of p) (other-in
     (c .before .before .before .before .before .before .before .before)))
@@ -254,17 +260,16 @@ last-requires c κs = search needs
 
 search-holds : tie.Need-search-holds Inv-search μ-search Inv-entries μ-entries
 search-holds c =
-    let p = c .before .before .before .before .before .before .before .before .before .before .before .before .before .before .before in
+    let p = c .before .before .before .before .before .before .before .before .before .before .before .before .before .before in
     let a = p .before .before .before .before .before .before .before .before .before .before .args in
     let h = c .before .before .before .before .before .head in (
       h .ensures .1,
-      among-start (eqb (ace-of p .kind) 0) (a .heads .now) (a .seats .now) (a .listing .now) (who-of p) (h .result) (h .ensures .0),
+      among-start (allows (entry-of p)) (a .heads .now) (a .seats .now) (a .listing .now) (who-of p) (h .result) (h .ensures .0),
     )
 
 mul-x : tie.Need-mul-x Inv-search μ-search Inv-entries μ-entries
 mul-x c =
-    let p = c .before .before .before .before .before .before .before .before .before .before .before .before .before .before .before
-    .before .before in
+    let p = c .before .before .before .before .before .before .before .before .before .before .before .before .before .before .before .before in
     let z = p .before .before .before .before .before .before .before .before .before .before in
     let within : c .before .search .n < length (z .args .seats .now) = omega (arith, c .before .search .inv .0, c .if7 .left) in
     let room = z .good .1 .1 .1 .1 .0 in
@@ -301,14 +306,13 @@ search-less c = below c
 
 search-again : tie.Need-search-again Inv-search μ-search Inv-entries μ-entries
 search-again c =
-    let p = c .before .before .before .before .before .before .before .before .before .before .before .before .before .before .before
-    .before .before .before .before .before .before .before .before in
+    let p = c .before .before .before .before .before .before .before .before .before .before .before .before .before .before .before .before .before .before .before .before .before .before in
     let a = p .before .before .before .before .before .before .before .before .before .before .args in
     let l = c .before .before .before .before .before .before .before .search in
     let less = below c in (
       omega (arith, less, l .inv .0),
       l .inv .1
-          ∙ chain-more (eqb (ace-of p .kind) 0) (a .seats .now) (a .listing .now) (who-of p) (l .n) (l .n - 1) _ (omega (arith, less))
+          ∙ chain-more (allows (entry-of p)) (a .seats .now) (a .listing .now) (who-of p) (l .n) (l .n - 1) _ (omega (arith, less))
           refl (c .before .before .next .result) (sym (c .before .before .before .before .sits .ensures) ∙ c .before .before .before .if8
           .left) (c .before .before .next .ensures .0)
           (sym (c .before .is-near .ensures) ∙ c .if9 .left),
@@ -316,16 +320,12 @@ search-again c =
 
 -- what the search gave: whether one of those shown matches
 found : (c : tie.Joined7 Inv-search μ-search Inv-entries μ-entries) →
-    c .if7 .hit ≡ among (eqb (ace-of (c .before .before .before .before .before .before .before .before .before .before .before .before
-    .before .before .before .before .before) .kind) 0) (crowd-of (c .before .before .before .before .before .before .before .before .before
-    .before .before .before .before .before .before .before .before)) (who-of (c .before .before .before .before .before .before .before
-    .before .before .before .before .before .before .before .before .before .before))
+    c .if7 .hit ≡ among (allows (entry-of (c .before .before .before .before .before .before .before .before .before .before .before .before .before .before .before .before))) (crowd-of (c .before .before .before .before .before .before .before .before .before .before .before .before .before .before .before .before)) (who-of (c .before .before .before .before .before .before .before .before .before .before .before .before .before .before .before .before))
 found c =
-    let p = c .before .before .before .before .before .before .before .before .before .before .before .before .before .before .before
-    .before .before in
+    let p = c .before .before .before .before .before .before .before .before .before .before .before .before .before .before .before .before in
     let a = p .before .before .before .before .before .before .before .before .before .before .args in
     let l = c .before .search in
-    let allow = eqb (ace-of p .kind) 0 in
+    let allow = allows (entry-of p) in
     ⊎-elim
     (λ w. w .1 ∙ sym (l .inv .1 ∙ chain-none allow (a .seats .now) (a .listing .now) (who-of p) (l .n) (w .0 .taken)))
     (⊎-elim
@@ -340,6 +340,9 @@ found c =
     (ap (near (l .n)) (sym (w .4 .ensures .0)) ∙ sym (w .5 .ensures) ∙ w .6 .taken))))
     (c .if7 .came)
 
+speaks-requires-2 : tie.Need-speaks-requires-2 Inv-search μ-search Inv-entries μ-entries
+speaks-requires-2 c κs = search needs
+
 step-requires-2 : tie.Need-step-requires-2 Inv-search μ-search Inv-entries μ-entries
 step-requires-2 c κs = search needs
 
@@ -351,20 +354,19 @@ entries-less-6 c =
 
 entries-again-6 : tie.Need-entries-again-6 Inv-search μ-search Inv-entries μ-entries
 entries-again-6 c =
-    let p = c .before .before .before .before .before .before .before .before .before .before .before .before .before .before .before
-    .before .before .before in
-    let f = c .before .before .before .before .before .before .before .before .before .before .before .before .before .before .before
-    .before .before .counts in
-    let m = c .before .before .before .before .before .before .entry-mask2 in
-    let other = other-in (c .before .before .before .before .before .before .before .before .before .before .before .before) in
+    let p = c .before .before .before .before .before .before .before .before .before .before .before .before .before .before .before .before .before .before in
+    let f = c .before .before .before .before .before .before .before .before .before .before .before .before .before .before .before .before .before .counts in
+    let m = c .before .before .before .before .before .before .before .entry-mask2 in
+    let q = c .before .speaks2 in
+    let other = other-in (c .before .before .before .before .before .before .before .before .before .before .before .before .before) in
     let counted = not-true (has (ace-of p .flags) 0x08) (sym (f .ensures) ∙ not-false (f .result)
     (c .before .before .before .before .before .before .before .before .before .before .before .before .before .before .before .before .if2
     .left)) in
-    let mine = matches-among (eqb (ace-of p .kind) 0) (crowd-of p) (who-of p) (hits-of p) other in
+    let mine = matches-among (allows (entry-of p)) (crowd-of p) (who-of p) (hits-of p) other in
     on p (c .step2 .result) (named-of p) (names-other (named-of p) (entry-of p) other)
     (c .step2 .ensures
-    ∙ taken-by (kind-of p) (crowd-of p) (hits-of p) (tally-of p) (entry-of p) (c .before .if7 .hit) (m .result .0) (m .ensures) counted
-    (found (c .before) ∙ sym mine))
+    ∙ taken-by (kind-of p) (crowd-of p) (hits-of p) (tally-of p) (entry-of p) (q .result) (m .result .0) (m .ensures) counted
+    (q .ensures ∙ ap (λ (t : Bool). t && admitted-of p) (found (c .before .before) ∙ sym mine)))
 
 returns : tie.Need-returns Inv-search μ-search Inv-entries μ-entries
 returns c =
@@ -404,6 +406,7 @@ pass-spec =
     names-requires
     entry-mask-requires
     virtual-matches-requires
+    speaks-requires
     step-requires
     entries-less-2
     entries-again-2
@@ -427,6 +430,7 @@ pass-spec =
     search-row-requires
     search-less
     search-again
+    speaks-requires-2
     step-requires-2
     entries-less-6
     entries-again-6

@@ -1,67 +1,48 @@
--- `policy::rules::judged` meets its contract: the rule's effective list, and its staged one where it has one. Assumes nothing.
-use borrow.Author.Tests.{lt-ltb, le-ltb}
+-- `policy::rules::judged` meets its contract: a rule that applies narrows, and no other does. Assumes nothing.
+use mathlib.Core.Path.{sym, _∙_}
 use borrow.Author.Needs.{needs}
 use Rattle.passes.specs.Chains.{shown}
 use Rattle.policy.specs.ByLengths.{listsByLengths}
-use Rattle.policy.proofs.RulesSteps.{judged-plain, judged-staged}
+use Rattle.policy.proofs.RulesSteps.{judged-applies, judged-passed}
 use Rattle.policy.proofs.rules.judged.Statement.{statement}
 use Rattle.policy.proofs.rules.judged.Tie as tie
 
-sub-result : tie.Need-sub-result
-sub-result c = search needs
+sub-admits : tie.Need-sub-admits
+sub-admits c = search needs
 
-part-result-start : tie.Need-part-result-start
-part-result-start c = search needs
+part-admits-start : tie.Need-part-admits-start
+part-admits-start c = search needs
 
-part-result-end : tie.Need-part-result-end
-part-result-end c = search needs
+part-admits-end : tie.Need-part-admits-end
+part-admits-end c = search needs
 
-result-requires : tie.Need-result-requires
-result-requires c κs = search needs
+admits-requires : tie.Need-admits-requires
+admits-requires c κs = search needs
 
-sub-result-2 : tie.Need-sub-result-2
-sub-result-2 c = search needs
-
-part-result-start-2 : tie.Need-part-result-start-2
-part-result-start-2 c = search needs
-
-part-result-end-2 : tie.Need-part-result-end-2
-part-result-end-2 c = search needs
-
-result-requires-2 : tie.Need-result-requires-2
-result-requires-2 c κs = search needs
+narrowed-requires : tie.Need-narrowed-requires
+narrowed-requires c κs = search needs
 
 returns : tie.Need-returns
 returns c =
-    let second = c .before .before .before .before .before in
-    let test = second .before .before in
-    let first = test .before in
-    let a = first .before .before .before .before .before .before .before .args in
-    judged-staged (a .kind) (shown (a .heads .now) (a .seats .now) (a .listing .now)) (a .hits) (a .privileges) (a .before)
-    (listsByLengths (a .s .now) (a .r))
-    (first .result .result .0) (first .result .ensures) (second .result2 .result .0) (second .result2 .ensures)
-    (lt-ltb _ _ (test .if1 .taken))
+    let a = c .before .before .before .before .before .before .before .args in
+    c .narrowed .ensures
+    ∙ sym (judged-applies (a .kind) (shown (a .heads .now) (a .seats .now) (a .listing .now)) (a .hits) (a .privileges) (a .before)
+    (listsByLengths (a .s .now) (a .r)) (sym (c .before .before .admits .ensures) ∙ c .before .if1 .taken))
 
 returns-2 : tie.Need-returns-2
 returns-2 c =
-    let test = c .before .before in
-    let first = test .before in
-    let a = first .before .before .before .before .before .before .before .args in
-    judged-plain (a .kind) (shown (a .heads .now) (a .seats .now) (a .listing .now)) (a .hits) (a .privileges) (a .before)
-    (listsByLengths (a .s .now) (a .r))
-    (first .result .result .0) (first .result .ensures) (le-ltb _ _ (test .if1 .left))
+    let a = c .before .before .before .before .before .before .args in
+    sym (judged-passed (a .kind) (shown (a .heads .now) (a .seats .now) (a .listing .now)) (a .hits) (a .privileges) (a .before)
+    (listsByLengths (a .s .now) (a .r)) (sym (c .before .admits .ensures) ∙ c .if1 .left))
 
 pub judged-spec : {M : Type 1} → statement M
 judged-spec =
     tie.close
     (tie.spec
-    sub-result
-    part-result-start
-    part-result-end
-    result-requires
-    sub-result-2
-    part-result-start-2
-    part-result-end-2
-    result-requires-2
+    sub-admits
+    part-admits-start
+    part-admits-end
+    admits-requires
+    narrowed-requires
     returns
     returns-2)

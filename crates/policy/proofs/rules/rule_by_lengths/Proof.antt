@@ -1,4 +1,4 @@
--- `policy::rules::step_at` meets its contract: each section begins where the one before it ends. Assumes nothing.
+-- `policy::rules::rule_by_lengths` meets its contract: each section begins where the one before it ends. Assumes nothing.
 use borrow.Author.Needs.{needs}
 use Rattle.policy.proofs.RulesSteps.{step-read}
 use Rattle.policy.proofs.rules.rule_by_lengths.Statement.{statement}
@@ -31,7 +31,7 @@ returns c =
           (c .section-at5 .result)
           (one .section-at .ensures .0) (two .section-at2 .ensures .0) (three .section-at3 .ensures .0) (four .section-at4 .ensures .0)
           (c .section-at5 .ensures .0),
-      (c .section-at5 .ensures .1 .1, (two .section-at2 .ensures .1, four .section-at4 .ensures .1)),
+      (c .section-at5 .ensures .1 .1, (one .section-at .ensures .1, (two .section-at2 .ensures .1, four .section-at4 .ensures .1))),
     )
 
 pub rule-by-lengths-spec : {M : Type 1} → statement M

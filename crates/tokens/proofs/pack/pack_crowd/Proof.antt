@@ -6,7 +6,7 @@ use native.Mathlib.Omega.{arith}
 use Rattle.base.specs.Bytes.{u32At, part}
 use Rattle.base.specs.Sevens.{packed}
 use Rattle.base.proofs.WriteLaws.{room-first, room-after, wrote-append, wrote-same}
-use Rattle.lists.proofs.SidLaws.{sid-of-part}
+use Rattle.sids.proofs.SidLaws.{sid-of-part}
 use Rattle.records.specs.TokenRecord.{packIdentity}
 use Rattle.records.specs.Packing.{membersBytes}
 use Rattle.records.proofs.PackLaws.{starts, crowd-is, crowd-end-is, crowd-members}

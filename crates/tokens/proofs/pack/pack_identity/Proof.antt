@@ -4,7 +4,7 @@ use mathlib.Core.List.{_++_}
 use native.Mathlib.Omega.{arith}
 use Rattle.base.specs.Sevens.{packed}
 use Rattle.base.proofs.WriteLaws.{room-first, room-after, wrote-append, wrote-same}
-use Rattle.lists.proofs.SidLaws.{sid-shape, is-sid-long}
+use Rattle.sids.proofs.SidLaws.{sid-shape, is-sid-long}
 use Rattle.records.specs.TokenRecord.{packedWords}
 use Rattle.records.proofs.PackLaws.{identity-is}
 use borrow.Author.Needs.{needs}

@@ -4,7 +4,7 @@ use native.Mathlib.Omega.{arith}
 use borrow.Author.Tests.{not-true, not-false}
 use Rattle.base.specs.Sevens.{packed}
 use Rattle.base.proofs.WriteLaws.{room-after, wrote-append, wrote-same}
-use Rattle.lists.proofs.SidLaws.{sid-of-part}
+use Rattle.sids.proofs.SidLaws.{sid-of-part}
 use Rattle.records.proofs.PackLaws.{starts, member-word, member-plain, member-room, member-end-word, member-end-plain}
 use borrow.Author.Needs.{needs}
 use Rattle.tokens.proofs.pack.pack_member.Statement.{statement}

@@ -1,6 +1,6 @@
 -- `identity_end` meets its contract: an identity that stands whole ends after its head and its words. Assumes nothing.
 use native.Mathlib.Omega.{arith}
-use Rattle.lists.proofs.SidLaws.{SidAt, sid-at}
+use Rattle.sids.proofs.SidLaws.{SidAt, sid-at}
 use borrow.Author.Needs.{needs}
 use Rattle.tokens.proofs.parts.identity_end.Statement.{statement}
 use Rattle.tokens.proofs.parts.identity_end.Tie as tie
