@@ -138,7 +138,7 @@ expect 'scripts/install --prefix=x' '2 usage: install PREFIX' "$(called install 
 expect 'scripts/build -h' '0 usage: build [OUT-DIR]' "$(called build -h)"
 expect 'scripts/build with two words' '2 usage: build [OUT-DIR]' "$(called build a b)"
 expect 'scripts/archive --help' '0 usage: archive OUT-DIR' "$(called archive --help)"
-groups='table|small|hard|policy|long|spare|owner|conversions'
+groups='table|small|hard|policy|long|spare|owner|conditions|conversions'
 expect 'scripts/bench --fast' "2 usage: bench [$groups].." "$(called bench --fast)"
 expect 'scripts/bench of a group that is none' \
     "2 bench: there is no group of rows \`fast\`; there are ${groups//|/, }" "$(called bench fast)"
