@@ -1,6 +1,6 @@
 /* pirasteh.h: a proved access check for C and C++.
  *
- * Four functions. Each returns a status: PIRASTEH_ANSWERED, which is 0, or the number of the
+ * Six functions. Each returns a status: PIRASTEH_ANSWERED, which is 0, or the number of the
  * refusal. pirasteh_allows, at the end, makes one yes or no of the first. Link with -lpirasteh.
  *
  * Status 0 is not "yes"
@@ -18,9 +18,9 @@
  *               aligned as those types are; byte pointers need no alignment.
  *   Lengths     A length is at most the bytes that may be read (or, for `out`, written) from
  *               its pointer on, and at most PTRDIFF_MAX.
- *   Overlap     What a call writes (out, written, granted, allowed, staged) may not overlap
- *               anything else passed to that call. Inputs are only read, so two inputs may
- *               share bytes.
+ *   Overlap     What a call writes (out, written, and every word it answers in: granted,
+ *               allowed, staged and their like) may not overlap anything else passed to that
+ *               call. Inputs are only read, so two inputs may share bytes.
  *   Keep still  No other thread may write to any of this memory before the call returns.
  *   Threads     Thread-safe: any number of threads may call at the same time, on shared inputs
  *               too. What a call writes is for that call alone.
@@ -45,8 +45,8 @@
 
 /* The version of this header and its library, as text and as a number that can be compared:
  * major * 10000 + minor * 100 + patch. */
-#define PIRASTEH_VERSION        "0.5.0"
-#define PIRASTEH_VERSION_NUMBER 500
+#define PIRASTEH_VERSION        "0.6.0"
+#define PIRASTEH_VERSION_NUMBER 600
 
 /* PIRASTEH_CALL: the compiler warns about NULL, and about a result that is not looked at. */
 #if defined(__has_attribute)
@@ -217,6 +217,52 @@ uint32_t pirasteh_check(uint32_t kind, uint32_t mask,
 PIRASTEH_CALL
 uint32_t pirasteh_question(const uint8_t *file, size_t file_len,
                            uint32_t *granted, uint32_t *allowed, uint32_t *staged);
+
+/* The same question, and where the rights went: for each step of the check the asked bits that
+ * are left after it.
+ *
+ * kind to policy   as for pirasteh_check
+ *
+ * *asked      the bits asked for: the desired mask with its generic bits mapped, and with
+ *             PIRASTEH_MAXIMUM_ALLOWED replaced by all bits of the kind
+ * *normal     those of them that normal evaluation leaves: the list, the owner's rights and the
+ *             privileges
+ * *confined   those of *normal that confinement leaves: all of them if the token is not confined,
+ *             or is exempt
+ * *ruled      those of *confined that the policy leaves: all of them if no rule applies
+ * *granted    what is granted, the same as *ruled
+ * *allowed, *staged   as for pirasteh_check
+ *
+ * Each mask lies within the one before it. So one step took each bit that is missing:
+ *
+ *     asked & ~normal       lost at normal evaluation
+ *     normal & ~confined    lost at confinement
+ *     confined & ~ruled     lost at the policy
+ *
+ * All words are written in every case. Refused: all of them are 0. The status, *granted,
+ * *allowed and *staged are what pirasteh_check gives for the same question, and here too status
+ * 0 is not yes: look at *allowed. */
+PIRASTEH_CALL
+uint32_t pirasteh_why(uint32_t kind, uint32_t mask,
+                      const uint8_t *token, size_t token_len,
+                      const uint8_t *self_id, size_t self_len,
+                      const uint8_t *descriptor, size_t descriptor_len,
+                      const uint8_t *policy, size_t policy_len,
+                      uint32_t *asked, uint32_t *normal, uint32_t *confined, uint32_t *ruled,
+                      uint32_t *granted, uint32_t *allowed, uint32_t *staged);
+
+/* The same from the bytes of a question file.
+ *
+ * *kind   the kind of the file's question, PIRASTEH_FILE or PIRASTEH_KEY: it says what the bits
+ *         of the masks mean
+ *
+ * The other words as above. All are written in every case, and refused all of them are 0, *kind
+ * too. Gives what pirasteh_question gives; status 0 is not yes. */
+PIRASTEH_CALL
+uint32_t pirasteh_why_question(const uint8_t *file, size_t file_len,
+                               uint32_t *kind, uint32_t *asked,
+                               uint32_t *normal, uint32_t *confined, uint32_t *ruled,
+                               uint32_t *granted, uint32_t *allowed, uint32_t *staged);
 
 /* Packed token record to flat listing.
  *

@@ -60,6 +60,26 @@ ownerless='0100048000000000000000000000000020000000 010100000000000507000000'
 bytes "$head $user 00 40 $descriptor $list 00" >c1
 bytes "$head $owner 00 40 $descriptor $list 00" >c2
 bytes "$head $user 00 40 $ownerless $list 00" >ownerless
+# The cards c7 to c9; a key and a file of which all is asked, the file with an empty list; and a
+# question that loses a right at each of the three steps.
+entry() { # mask as four bytes, SID: allows it to that identity
+    echo "00001800 $1 $2"
+}
+u='01020000000000050000000007000000'
+packages='010200000000000f0200000002000000'
+confined='11 0101000205000700 020f0209 01020f0202'
+secure='12 010180020205000700 020f0209 01020f0202'
+null='0100008014000000000000000000000000000000 010100000000000507000000'
+read="20000000 0200200001000000 $(entry 01000000 $u)"
+both="0200200001000000 $(entry 03000000 $u)"
+none=00000000
+bytes "01 03 $user 00 40 $descriptor $both 59 0101000000 $none $read $none 20000000 $both $none" >c7
+bytes "$head $confined 00 40 $descriptor $list 00" >c8
+bytes "01 81808008 $secure 00 20 $null 00" >c9
+bytes "02 80808018 $user 00 40 $descriptor $list 00" >key
+bytes "01 80808018 $user 00 28 $descriptor 0200080000000000 00" >file
+two="0200380002000000 $(entry 23000000 $u) $(entry 03000000 $packages)"
+bytes "01 a38004 $confined 00 58 $descriptor $two 39 0101000000 $none $read $none $none $none" >lost
 bytes '0100000205000700' >record
 bytes '00000000 0000000000000000 010200000000000500000000 07000000 00000000' >listing
 bytes '8000' >bad
@@ -81,6 +101,7 @@ cp c1 $'\xff\xfe'
 yes='granted 0x00120089 allowed yes staged no'
 no='granted 0x00020000 allowed no staged no'
 same 'c1 is the program'\''s own card' c1 "$root/crates/ask/data/c1"
+same 'lost is the program'\''s own question' lost "$root/crates/ask/data/lost"
 
 # ask: answers, statuses, refusals
 try 'ask: allowed'                0 "$yes" '' '$PIRASTEH ask c1'
@@ -103,12 +124,70 @@ try 'ask: a name with a dash'     0 "$yes" '' '$PIRASTEH ask -- -dash'
 try 'ask: a name with a space'    0 "$yes" '' '$PIRASTEH ask "with a space"'
 try 'ask: a name not of UTF-8'    0 "$yes" '' "\$PIRASTEH ask \$'\\xff\\xfe'"
 
+# why: the answer, the masks and the rights that were lost, worked out by hand
+told() { # the four masks, in one word if they are all the same
+    printf 'normal %s\nconfined %s\npolicy %s\ngranted %s\n' "$1" "${2:-$1}" "${3:-$1}" "${4:-$1}"
+}
+losses() { # step, and then each right as its bit and its name with dots
+    local step=$1 right
+    shift
+    for right in "$@"; do
+        right=${right//./ }
+        printf 'lost 0x%08x %s: %s\n' "${right%% *}" "${right#* }" "$step"
+    done
+}
+evaluation='normal evaluation'
+zero=0x00000000
+refused7=$(printf 'refused 7\n'; told $zero)
+refused12=$(printf 'refused 12\n'; told $zero)
+yes_why=$(echo "$yes"; told 0x00120089)
+try 'why: nothing is lost'   0 "$yes_why" '' '$PIRASTEH why c1'
+try 'why: to the list'       1 "$(echo "$no"; told 0x00020000
+    losses "$evaluation" 0x1.read.data 0x8.read.extended.attributes 0x80.read.attributes 0x100000.synchronize
+    )" '' '$PIRASTEH why c2'
+try 'why: to a rule'         1 "$(echo 'granted 0x00000001 allowed no staged yes'
+    told 0x00000003 0x00000003 0x00000001 0x00000001
+    losses policy 0x2.write.data)" '' '$PIRASTEH why c7'
+try 'why: to confinement'    1 "$(echo 'granted 0x00000000 allowed no staged no'
+    told 0x00120089 $zero $zero $zero
+    losses confinement 0x1.read.data 0x8.read.extended.attributes 0x80.read.attributes \
+        0x20000.read.control 0x100000.synchronize)" '' '$PIRASTEH why c8'
+try 'why: a privilege'       1 "$(echo 'granted 0x00000001 allowed no staged no'
+    told 0x01000001 0x00000001 0x00000001 0x00000001
+    losses confinement 0x1000000.access.system.security)" '' '$PIRASTEH why c9'
+try 'why: to each step'      1 "$(echo 'granted 0x00000001 allowed no staged no'
+    told 0x00000023 0x00000003 0x00000001 0x00000001
+    losses policy 0x2.write.data
+    losses confinement 0x20.execute
+    losses "$evaluation" 0x10000.delete)" '' '$PIRASTEH why lost'
+try 'why: all of a key'      1 "$(echo 'granted 0x00020019 allowed no staged no'
+    told 0x00020019
+    losses "$evaluation" 0x2.set.value 0x4.create.subkey 0x20.create.link 0x10000.delete 0x40000.write.dac \
+        0x80000.write.owner 0x1000000.access.system.security)" '' '$PIRASTEH why key'
+try 'why: all of a file'     1 "$(echo 'granted 0x00000000 allowed no staged no'
+    told $zero
+    losses "$evaluation" 0x1.read.data 0x2.write.data 0x4.append.data 0x8.read.extended.attributes \
+        0x10.write.extended.attributes 0x20.execute 0x40.delete.child 0x80.read.attributes \
+        0x100.write.attributes 0x10000.delete 0x20000.read.control 0x40000.write.dac 0x80000.write.owner \
+        0x100000.synchronize 0x1000000.access.system.security)" '' '$PIRASTEH why file'
+try 'why: refused'            3 "$refused7" '' '$PIRASTEH why ownerless'
+try 'why: empty'              3 "$refused12" '' '$PIRASTEH why empty'
+try 'why: 65,536 bytes'       0 "$yes_why" '' '$PIRASTEH why q65536'
+try 'why: 65,537 bytes'       3 "$refused12" '' '$PIRASTEH why q65537'
+try 'why: a pipe without end' 3 "$refused12" '' 'cat /dev/zero | $PIRASTEH why -'
+try 'why: standard input'     0 "$yes_why" '' '$PIRASTEH why - <c1'
+try 'why: opens when allowed' 0 "$yes_why"$'\n'open '' '$PIRASTEH why c1 && echo open'
+try 'why: shut when refused'  3 "$refused7" '' '$PIRASTEH why ownerless && echo open'
+try 'why: a name with a dash' 0 "$yes_why" '' '$PIRASTEH why -- -dash'
+try 'ask: a file named why'   0 "$yes" '' 'cp c1 why; $PIRASTEH ask why'
+
 # input that cannot be read
 try 'ask: missing'            2 '' 'pirasteh: nowhere: No such file or directory' '$PIRASTEH ask nowhere'
 try 'ask: a folder'           2 '' 'pirasteh: folder: Is a directory' '$PIRASTEH ask folder'
 try 'ask: input is a folder'  2 '' 'pirasteh: standard input: Is a directory' '$PIRASTEH ask - <folder'
 try 'ask: input closed'       2 '' 'pirasteh: standard input: Bad file descriptor' '$PIRASTEH ask - <&-'
 try 'ask: an empty name'      2 '' "pirasteh: '': No such file or directory" '$PIRASTEH ask ""'
+try 'why: missing'            2 '' 'pirasteh: nowhere: No such file or directory' '$PIRASTEH why nowhere'
 try 'token: missing'          2 '' 'pirasteh: nowhere: No such file or directory' '$PIRASTEH token list nowhere'
 try 'token: a folder'         2 '' 'pirasteh: folder: Is a directory' '$PIRASTEH token pack folder'
 
@@ -119,6 +198,8 @@ try 'ask: all closed'         2 '' '' '$PIRASTEH ask c1 <&- >&- 2>&-'
 try 'ask: the reader is gone' 2 '' 'pirasteh: standard output: Broken pipe' \
     'mkfifo pipe; exec 3<>pipe 4>pipe 3<&-; $PIRASTEH ask c1 >&4'
 try 'ask: a refusal lost'     2 '' 'pirasteh: standard output: *' '$PIRASTEH ask ownerless >/dev/full'
+try 'why: output full'        2 '' 'pirasteh: standard output: No space left on device' '$PIRASTEH why lost >/dev/full'
+try 'why: a refusal lost'     2 '' 'pirasteh: standard output: Bad file descriptor' '$PIRASTEH why ownerless >&-'
 try 'token: output full'      2 '' 'pirasteh: standard output: No space left on device' '$PIRASTEH token list record >/dev/full'
 try 'token: output closed'    2 '' 'pirasteh: standard output: Bad file descriptor' '$PIRASTEH token pack listing >&-'
 try 'help: output full'       2 '' 'pirasteh: standard output: No space left on device' '$PIRASTEH --help >/dev/full'
@@ -139,13 +220,13 @@ try 'token: without end'      3 '' 'refused 3' 'cat /dev/zero | $PIRASTEH token 
 try 'token: nowhere to say'   3 '' '' '$PIRASTEH token list bad 2>&-'
 
 # usage
-for words in '' 'answer c1' 'ask' 'ask c1 c2' 'token' 'token list' 'token turn record' \
+for words in '' 'answer c1' 'ask' 'ask c1 c2' 'ask why c1' 'why' 'why c1 c2' 'why -x c1' 'token' 'token list' 'token turn record' \
     'token list record listing' '-x' 'ask -x c1' '--helpless' 'token --all list record'; do
     try "usage: pirasteh $words" 2 '' 'pirasteh: *usage: pirasteh *' "\$PIRASTEH $words"
 done
 version=$(sed -n '/^\[workspace.package\]/,/^$/s/^version = "\(.*\)"$/\1/p' "$root/Cargo.toml")
 try 'version' 0 "pirasteh $version"$'\n''an unproved shell over the proved library' '' '$PIRASTEH --version'
-for words in '--help' '-h' 'ask --help' 'token list -h'; do
+for words in '--help' '-h' 'ask --help' 'why -h' 'token list -h'; do
     try "help: $words" 0 '0 0 0' '' "\$PIRASTEH $words >text; for word in 'an unproved shell over the proved library' 'answered, and not allowed' '  12  '; do grep -qF -- \"\$word\" text; echo \$?; done | paste -sd' '"
 done
 
@@ -164,6 +245,13 @@ if run_here ask && run_here token; then
     try 'program ask: output full'     0 '' 'standard output: No space left on device' '$ASK c1 >/dev/full'
     try 'program ask: output closed'   0 '' 'standard output: Bad file descriptor' '$ASK c1 >&-'
     try 'program ask: usage'           0 '' 'usage: ask *' '$ASK c1 c2'
+    try 'program ask: why'             0 "$yes_why" '' '$ASK why c1'
+    try 'program ask: why -'           0 "$yes_why" '' '$ASK why - <c1'
+    try 'program ask: why, refused'    0 "$refused7" '' '$ASK why ownerless'
+    try 'program ask: why, missing'    0 '' 'nowhere: No such file or directory' '$ASK why nowhere'
+    try 'program ask: why, full'       0 '' 'standard output: No space left on device' '$ASK why c1 >/dev/full'
+    try 'program ask: a file why'      0 "$no" '' 'cp c2 why; $ASK why'
+    try 'program ask: why, usage'      0 '' 'usage: ask *' '$ASK why c1 c2'
     try 'program token: list'          0 '' '' '$TOKEN list record >made'
     same 'program token: list' made listing
     try 'program token: pack -'        0 '' '' '$TOKEN pack - <listing >made'
@@ -202,6 +290,57 @@ ask_vector() { # question, line
     fi
 }
 
+# The bits that an answered question asks for, from the digits of its file: the kind in one byte, the
+# mask in sevens, its generic bits by the kind's row of the table of rights, and the maximum.
+asked_by() { # digits
+    local rights=(0 0x120089 0x120116 0x1200a0 0x1f01ff) at=2 shift=0 mask=0 byte asked bit
+    [ "${1:0:2}" = 01 ] || rights=(0 0x20019 0x20006 0x20019 0xf003f)
+    while byte=$((16#${1:at:2})); do
+        mask=$((mask | (byte & 127) << shift)) at=$((at + 2)) shift=$((shift + 7))
+        [ "$byte" -ge 128 ] || break
+    done
+    asked=$((mask & 0x0dffffff))
+    for bit in 1 2 3 4; do
+        [ $((mask & (0x100000000 >> bit))) -eq 0 ] || asked=$((asked | rights[bit]))
+    done
+    [ $((mask & 0x02000000)) -eq 0 ] || asked=$((asked | rights[4]))
+    echo "$asked"
+}
+
+# The four masks, each within the one before; of every bit that was asked and is not granted a line,
+# with the step that the masks tell; and no such line of a refused question.
+why_vector() { # digits, line, masks (nothing if refused): of the question that was asked last
+    local asked=0
+    [[ $2 == refused* ]] || asked=$(asked_by "$1")
+    shift
+    local line last=0 step masks=${2:-$zero $zero $zero $zero} status
+    local -A lost=([evaluation]=0 [confinement]=0 [policy]=0)
+    [[ ($1 == refused* && -z $2) || ($1 != refused* && -n $2) ]] || fail "a vector" "\`$1\` with the masks \`$2\`"
+    "$PIRASTEH" why question >output 2>stderr
+    status=$?
+    [ "$status" -eq "$(status_of "$1")" ] || fail "a vector" "why: status $status for the line \`$1\`"
+    head -n 5 output >five
+    # shellcheck disable=SC2086
+    (echo "$1" && told $masks) | cmp -s - five || fail "a vector" "why printed \`$(cat five)\`, expected \`$1\`, $masks"
+    while IFS= read -r line; do
+        [[ $line =~ ^'lost '(0x[0-9a-f]{8})' '[a-z\ ]+': '(normal evaluation|confinement|policy)$ ]] &&
+            [ $((BASH_REMATCH[1] & (BASH_REMATCH[1] - 1))) -eq 0 ] && [ $((BASH_REMATCH[1])) -gt "$last" ] ||
+            fail "a vector" "why printed \`$line\` behind the bit $last"
+        last=$((BASH_REMATCH[1])) step=${BASH_REMATCH[2]##* }
+        lost[$step]=$((${lost[$step]} | last))
+    done < <(tail -n +6 output)
+    # shellcheck disable=SC2086
+    set -- $masks
+    [ $(( ($1 & ~asked) | ($2 & ~$1) | ($3 & ~$2) | ($3 ^ $4) )) -eq 0 ] &&
+        [ "${lost[evaluation]} ${lost[confinement]} ${lost[policy]}" = "$((asked & ~$1)) $(($1 & ~$2)) $(($2 & ~$3))" ] ||
+        fail "a vector" "why: the steps of the lost rights are not those of the masks $masks"
+    if [ $programs = yes ]; then
+        "$ASK" why question >output-too 2>stderr-too
+        cmp -s five output-too && cmp -s stderr stderr-too ||
+            fail "a vector" "pirasteh why and ask why print otherwise for the line \`$(head -n 1 five)\`"
+    fi
+}
+
 token_vector() { # list or pack, input, expected bytes or a refusal number
     local status
     bytes "$2" >input
@@ -227,6 +366,7 @@ case_ends() {
     vectors=$((vectors + 1))
     if [ -n "${field[ask]+.}" ]; then
         ask_vector "${field[ask]}" "${field[line]}"
+        why_vector "${field[ask]}" "${field[line]}" "${field[masks]-}"
     elif [ -n "${field[refused]+.}" ]; then
         if [ -n "${field[record]+.}" ]; then
             token_vector list "${field[record]}" "refused ${field[refused]}"

@@ -12,15 +12,6 @@ cd "$(dirname "$0")/.."
 export CARGO_TARGET_DIR=${CARGO_TARGET_DIR:-$PWD/target/cargo}
 expected='granted 0x00120089 allowed yes staged no'
 
-check() { # name, what it printed
-    if [ "$2" = "$expected" ]; then
-        echo "  $1: $2"
-    else
-        echo "FAILED $1: it printed \`$2\`, expected \`$expected\`"
-        exit 1
-    fi
-}
-
 build_c() { # source, program, further words for the compiler
     local source=$1 program=$2
     shift 2
@@ -28,14 +19,18 @@ build_c() { # source, program, further words for the compiler
         -L"$PIRASTEH_LIB_DIR" -lpirasteh -o "target/examples/$program"
 }
 
-check_c() { # what is tried, program, the exit code and the line that are expected
+check() { # what is tried, program, the exit code and the lines that are expected
     local said code=0
-    said=$("target/examples/$2") || code=$?
+    said=$("$2") || code=$?
     if [ "$said" != "$4" ] || [ "$code" -ne "$3" ]; then
         echo "FAILED $1: it printed \`$said\` with exit code $code, expected \`$4\` with $3"
         exit 1
     fi
-    echo "  $1: $said"
+    echo "  $1: ${said//$'\n'/; }"
+}
+
+check_c() { # the same, of a program in C
+    check "$1" "target/examples/$2" "$3" "$4"
 }
 
 full_c() { # program: nothing can be printed, and it says so by its exit code
@@ -56,14 +51,30 @@ mkdir -p target/examples
 build_c ask.c ask-c
 build_c ask.c ask-c-no -DASKED=PIRASTEH_FILE_WRITE_DATA
 build_c ask.c ask-c-refused -DASKED=0x00400000u
+build_c why.c why-c
+build_c why.c why-c-yes -DASKED=PIRASTEH_FILE_READ_DATA
+build_c why.c why-c-refused -DASKED=0x00400000u
 build_c token.c token-c
 check_c 'examples/c/ask.c' ask-c 0 "$expected"
 check_c 'examples/c/ask.c, not allowed' ask-c-no 1 'granted 0x00000000 allowed no staged no'
 check_c 'examples/c/ask.c, refused' ask-c-refused 3 'refused 2'
+check_c 'examples/c/why.c' why-c 1 'asked 0x00010023
+lost at normal evaluation 0x00010000
+lost at confinement 0x00000020
+lost at the policy 0x00000002
+granted 0x00000001'
+check_c 'examples/c/why.c, allowed' why-c-yes 0 'asked 0x00000001
+lost at normal evaluation 0x00000000
+lost at confinement 0x00000000
+lost at the policy 0x00000000
+granted 0x00000001'
+check_c 'examples/c/why.c, refused' why-c-refused 3 'refused 2'
 check_c 'examples/c/token.c' token-c 0 'record 24 bytes, listing 88 bytes, back 24 bytes: the same'
 full_c ask-c
+full_c why-c
 full_c token-c
 
 cargo build --quiet --release --offline --package ask
-check 'examples/rust' "$("$CARGO_TARGET_DIR/release/ask")"
-echo "examples: 3 programs, 0 failures"
+check 'examples/rust' "$CARGO_TARGET_DIR/release/ask" 0 "$expected
+lost 0x00010000 delete: normal evaluation"
+echo "examples: 4 programs, 0 failures"

@@ -167,6 +167,7 @@ vectors=0 cases=0 definitions=0
 try_bytes 'A question file' crates/ask/data/c1
 try_bytes 'Its token record' crates/token/data/TU
 try_bytes 'Its flat listing' crates/token/stdout
+try_bytes 'A question that loses a right at each step' crates/ask/data/lost
 try_vectors
 try_cases
 try_definitions

@@ -8,6 +8,8 @@ use std::os::unix::ffi::OsStrExt;
 pub enum Task {
     /// Answer the question in a file.
     Ask(Input),
+    /// The same, and tell where the rights went.
+    Why(Input),
     /// Turn a packed token record into its flat listing.
     List(Input),
     /// Turn a flat listing into its packed token record.
@@ -71,6 +73,7 @@ fn task(mut operands: Operands) -> Result<Task, Wrong> {
     let subcommand = operands.next().ok_or(Wrong::NoSubcommand)?;
     match subcommand.as_bytes() {
         b"ask" => Ok(Task::Ask(input("ask", operands)?)),
+        b"why" => Ok(Task::Why(input("why", operands)?)),
         b"token" => conversion(operands),
         _ => Err(Wrong::Subcommand(subcommand)),
     }
@@ -112,6 +115,8 @@ mod tests {
     #[test]
     fn subcommands() {
         assert_eq!(line("ask c1"), Ok(Task::Ask(file("c1"))));
+        assert_eq!(line("why c1"), Ok(Task::Why(file("c1"))));
+        assert_eq!(line("ask why"), Ok(Task::Ask(file("why"))));
         assert_eq!(line("token list TU"), Ok(Task::List(file("TU"))));
         assert_eq!(line("token pack TU"), Ok(Task::Pack(file("TU"))));
     }
@@ -119,6 +124,7 @@ mod tests {
     #[test]
     fn dash_is_standard_input() {
         assert_eq!(line("ask -"), Ok(Task::Ask(Input::Standard)));
+        assert_eq!(line("why -"), Ok(Task::Why(Input::Standard)));
         assert_eq!(line("token list -"), Ok(Task::List(Input::Standard)));
         assert_eq!(line("token pack -- -"), Ok(Task::Pack(Input::Standard)));
         assert_eq!(line("ask ./-"), Ok(Task::Ask(file("./-"))));
@@ -126,9 +132,10 @@ mod tests {
 
     #[test]
     fn help_and_version() {
-        for words in ["--help", "-h", "ask --help", "token -h", "token list c1 --help", "-h -x"] {
+        for words in ["--help", "-h", "ask --help", "why -h", "token -h", "token list c1 --help"] {
             assert_eq!(line(words), Ok(Task::Help), "{words}");
         }
+        assert_eq!(line("-h -x"), Ok(Task::Help));
         for words in ["--version", "-V", "ask -V", "-V --help"] {
             assert_eq!(line(words), Ok(Task::Version), "{words}");
         }
@@ -139,6 +146,7 @@ mod tests {
         assert_eq!(line("ask -- --help"), Ok(Task::Ask(file("--help"))));
         assert_eq!(line("ask -- --"), Ok(Task::Ask(file("--"))));
         assert_eq!(line("-- ask -x"), Ok(Task::Ask(file("-x"))));
+        assert_eq!(line("why -- -x"), Ok(Task::Why(file("-x"))));
         assert_eq!(line("token -- list -x"), Ok(Task::List(file("-x"))));
         assert_eq!(line("-- --help"), Err(Wrong::Subcommand("--help".into())));
     }
@@ -149,6 +157,7 @@ mod tests {
         assert_eq!(line("--"), Err(Wrong::NoSubcommand));
         assert_eq!(line("ask"), Err(Wrong::NoFile("ask")));
         assert_eq!(line("ask --"), Err(Wrong::NoFile("ask")));
+        assert_eq!(line("why"), Err(Wrong::NoFile("why")));
         assert_eq!(line("token"), Err(Wrong::NoConversion));
         assert_eq!(line("token list"), Err(Wrong::NoFile("token list")));
         assert_eq!(line("token pack"), Err(Wrong::NoFile("token pack")));
@@ -170,6 +179,8 @@ mod tests {
     fn surplus_words() {
         assert_eq!(line("ask c1 c2"), Err(Wrong::Surplus("c2".into())));
         assert_eq!(line("ask - -"), Err(Wrong::Surplus("-".into())));
+        assert_eq!(line("ask why c1"), Err(Wrong::Surplus("c1".into())));
+        assert_eq!(line("why c1 c2"), Err(Wrong::Surplus("c2".into())));
         assert_eq!(line("token list TU TU TU"), Err(Wrong::Surplus("TU".into())));
     }
 

@@ -1,6 +1,7 @@
 //! The command `pirasteh`: an unproved shell over the proved library.
 //!
 //!     pirasteh ask FILE|-
+//!     pirasteh why FILE|-
 //!     pirasteh token list FILE|-
 //!     pirasteh token pack FILE|-
 //!

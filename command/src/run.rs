@@ -2,7 +2,7 @@
 
 use crate::arguments::{self, Input, Task};
 use crate::{stream, text};
-use pirasteh::{list_vec, pack_vec, question, Error, Listing, Token};
+use pirasteh::{list_vec, pack_vec, question, why_question, Error, Listing, Token};
 use std::ffi::{c_int, OsStr, OsString};
 use std::io;
 use std::path::Path;
@@ -20,6 +20,7 @@ const REFUSED: c_int = 3;
 pub fn run(words: Vec<OsString>) -> c_int {
     match arguments::read(words) {
         Ok(Task::Ask(input)) => with(&input, ask),
+        Ok(Task::Why(input)) => with(&input, why),
         Ok(Task::List(input)) => with(&input, |bytes| convert(list_vec(Token(bytes)))),
         Ok(Task::Pack(input)) => with(&input, |bytes| convert(pack_vec(Listing(bytes)))),
         Ok(Task::Help) => print(text::help().as_bytes(), YES),
@@ -45,10 +46,25 @@ fn with(input: &Input, go_on: impl FnOnce(&[u8]) -> c_int) -> c_int {
 
 fn ask(file: &[u8]) -> c_int {
     match question(file) {
-        Ok(answer) => {
-            print(format!("{answer}\n").as_bytes(), if answer.allowed { YES } else { NO })
-        }
+        Ok(answer) => print(format!("{answer}\n").as_bytes(), status(answer.allowed)),
         Err(error) => print(refusal(error).as_bytes(), REFUSED),
+    }
+}
+
+/// The answer with its masks, and a line for each right that was lost.
+fn why(file: &[u8]) -> c_int {
+    match why_question(file) {
+        Ok(why) => print(text::why(&why).as_bytes(), status(why.allowed)),
+        Err(error) => print((refusal(error) + text::NO_MASKS).as_bytes(), REFUSED),
+    }
+}
+
+/// The exit status of an answered question.
+fn status(allowed: bool) -> c_int {
+    if allowed {
+        YES
+    } else {
+        NO
     }
 }
 

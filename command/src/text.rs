@@ -1,20 +1,25 @@
-//! What the program says, but for answers.
+//! What the program says, but for plain answers.
 
 use crate::arguments::Wrong;
-use pirasteh::Error;
+use pirasteh::{Error, Why};
 use std::ffi::OsStr;
 use std::fmt::Write;
 use std::io;
 use std::os::unix::ffi::OsStrExt;
 
-const USAGE: &str = "usage: pirasteh ask FILE|- | pirasteh token list FILE|- | \
-                     pirasteh token pack FILE|- | pirasteh --help\n";
+const USAGE: &str = "usage: pirasteh ask FILE|- | pirasteh why FILE|- | \
+                     pirasteh token list FILE|- | pirasteh token pack FILE|- | pirasteh --help\n";
 
 const HELP: &str = "\
 pirasteh: a Windows-style access check; an unproved shell over the proved library
 
   pirasteh ask FILE         Answers the question in FILE, on standard output, with a line
                             like 'granted 0x00120089 allowed yes staged no' or 'refused 6'.
+  pirasteh why FILE         The same line, then the asked rights that are left after normal
+                            evaluation, after confinement and after policy, and those that
+                            are granted; then for each right that was asked for and is not
+                            granted the step that took it, with a line like
+                            'lost 0x00000002 write data: confinement'.
   pirasteh token list FILE  Turns a packed token record into its flat listing.
   pirasteh token pack FILE  Turns a flat listing into its packed token record. Both write
                             bytes on standard output; a refusal is 'refused 3' on standard
@@ -34,6 +39,24 @@ Exit status:
 
 Refusals:
 ";
+
+/// The masks of a refused question, behind its number.
+pub const NO_MASKS: &str = "\
+normal 0x00000000
+confined 0x00000000
+policy 0x00000000
+granted 0x00000000
+";
+
+/// The lines of an answered question: the answer, its masks, and the rights that were lost.
+pub fn why(why: &Why) -> String {
+    let mut text = format!("{why}\n");
+    for lost in why.lost() {
+        // Writing to a string does not fail.
+        let _ = writeln!(text, "{lost}");
+    }
+    text
+}
 
 /// What `--help` prints.
 pub fn help() -> String {
@@ -55,7 +78,7 @@ pub fn version() -> String {
 /// One line that says what is wrong with the command line, and one for its use.
 pub fn wrong(wrong: &Wrong) -> Vec<u8> {
     let (what, word) = match wrong {
-        Wrong::NoSubcommand => ("a subcommand is missing: ask or token", None),
+        Wrong::NoSubcommand => ("a subcommand is missing: ask, why or token", None),
         Wrong::NoConversion => ("token: a word is missing: list or pack", None),
         Wrong::NoFile(after) => return usage(format!("{after}: FILE is missing").as_bytes()),
         Wrong::Subcommand(word) => ("unknown subcommand: ", Some(word)),
@@ -96,11 +119,42 @@ fn shown(word: &OsStr) -> Vec<u8> {
 
 #[cfg(test)]
 mod tests {
-    use super::{failure, help, version, wrong, Wrong};
+    use super::{failure, help, version, why, wrong, Why, Wrong, NO_MASKS};
+    use pirasteh::Kind;
     use std::ffi::OsStr;
     use std::io;
 
     const WORDS: &str = "an unproved shell over the proved library";
+
+    const NOTHING: Why = Why {
+        kind: Kind::Key,
+        asked: 0,
+        normal: 0,
+        confined: 0,
+        ruled: 0,
+        granted: 0,
+        allowed: true,
+        staged: false,
+    };
+
+    #[test]
+    fn a_refused_question_has_the_masks_of_one_that_asks_nothing() {
+        let text = why(&NOTHING);
+        assert_eq!(text, format!("granted 0x00000000 allowed yes staged no\n{NO_MASKS}"));
+    }
+
+    #[test]
+    fn every_lost_right_has_a_line() {
+        let text = why(&Why { asked: 0x0102_0004, normal: 4, allowed: false, ..NOTHING });
+        let lost: Vec<&str> = text.lines().skip(5).collect();
+        let expected = [
+            "lost 0x00000004 create subkey: confinement",
+            "lost 0x00020000 read control: normal evaluation",
+            "lost 0x01000000 access system security: normal evaluation",
+        ];
+        assert_eq!(lost, expected);
+        assert!(text.ends_with('\n'));
+    }
 
     #[test]
     fn help_has_every_refusal() {

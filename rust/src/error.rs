@@ -45,7 +45,8 @@ pub enum Error {
     /// [`pack`](crate::pack) only.
     ShortBuffer,
     /// 12: the question file is misshapen or longer than
-    /// [`QUESTION_MAX`](crate::QUESTION_MAX). [`question`](crate::question) only.
+    /// [`QUESTION_MAX`](crate::QUESTION_MAX). [`question`](crate::question) and
+    /// [`why_question`](crate::why_question) only.
     FileShape,
     /// A number that this wrapper has no name for. A library newer than the wrapper may give it.
     Unknown(u32),

@@ -1,10 +1,11 @@
 //! A proved Windows-style access check, for Rust.
 //!
 //! One question is: may this user (a token) do this (a mask of rights) to this file or registry
-//! key (its security descriptor)? [`check`] answers it.
+//! key (its security descriptor)? [`check`] answers it, and [`why()`] tells at which step a right
+//! was lost that is not granted.
 //!
 //! ```
-//! use pirasteh::{check, mask, Descriptor, Kind, Policy, Question, SelfId, Token};
+//! use pirasteh::{check, mask, why, Descriptor, Kind, Policy, Question, SelfId, Token};
 //!
 //! // The user S-1-5-0-7, without groups.
 //! const TOKEN: [u8; 8] = [0x01, 0x00, 0x00, 0x02, 0x05, 0x00, 0x07, 0x00];
@@ -17,17 +18,25 @@
 //!     0x01, 0x02, 0x00, 0x00, 0x00, 0x00, 0x00, 0x05, 0x00, 0x00, 0x00, 0x00, 0x07, 0x00, 0x00, 0x00,
 //! ];
 //!
-//! let answer = check(&Question {
+//! let read = Question {
 //!     kind: Kind::File,
 //!     mask: mask::GENERIC_READ,
 //!     token: Token(&TOKEN),
 //!     self_id: SelfId::NONE,
 //!     descriptor: Descriptor(&DESCRIPTOR),
 //!     policy: Policy::NONE,
-//! })?;
+//! };
+//! let answer = check(&read)?;
 //! assert!(answer.allowed);
 //! assert_eq!(answer.granted, mask::FILE_GENERIC_READ);
 //! assert_eq!(answer.to_string(), "granted 0x00120089 allowed yes staged no");
+//!
+//! // May they delete it as well? No, and the list is why: neither a confinement nor a policy.
+//! let why = why(&Question { mask: mask::GENERIC_READ | mask::DELETE, ..read })?;
+//! assert!(!why.allowed);
+//! assert_eq!(why.asked & !why.normal, mask::DELETE);
+//! let lost: Vec<String> = why.lost().map(|lost| lost.to_string()).collect();
+//! assert_eq!(lost, ["lost 0x00010000 delete: normal evaluation"]);
 //! # Ok::<(), pirasteh::Error>(())
 //! ```
 //!
@@ -37,7 +46,7 @@
 //! [`Answer::allowed`], or use [`allows`], which is true for yes and for nothing else.
 //! [`Answer::granted`] does not tell: it has the asked bits that are granted, also where others
 //! are missing. `Err` is a refusal: some part is misshapen or not understood, nothing is granted,
-//! and the [`Error`] says which part.
+//! and the [`Error`] says which part. So it is with [`Why`] too.
 //!
 //! # Where the bytes come from
 //!
@@ -54,8 +63,8 @@
 //! written rules. `docs/PROMISES.md` says it in full, with what is assumed: the compiler and the
 //! machine, among others.
 //!
-//! This wrapper is not proved. It hands pointers and lengths over and gives names to numbers. It
-//! decides nothing.
+//! This wrapper is not proved. It hands pointers and lengths over, gives names to numbers and bits,
+//! and tells from the library's masks which step took a bit. It decides nothing.
 //!
 //! # What a call takes
 //!
@@ -84,7 +93,9 @@ pub mod mask;
 mod parts;
 pub mod privilege;
 pub mod raw;
+pub mod rights;
 pub mod token_flag;
+mod why;
 
 pub use answer::Answer;
 pub use ask::{allows, check, question, Question};
@@ -92,6 +103,7 @@ pub use convert::{list, list_vec, pack, pack_vec};
 pub use error::Error;
 pub use kind::Kind;
 pub use parts::{Descriptor, Listing, Policy, SelfId, Token};
+pub use why::{why, why_question, Lost, Step, Why};
 
 /// A buffer of this size holds any flat listing, so that [`list`] never finds it too short.
 pub const LISTING_MAX: usize = 22_940;

@@ -54,6 +54,51 @@ extern "C" {
         staged: *mut u32,
     ) -> u32;
 
+    /// One question, by its parts, with the masks after each step. The seven result words are
+    /// written in every case.
+    ///
+    /// # Safety
+    ///
+    /// As for [`pirasteh_check`].
+    pub fn pirasteh_why(
+        kind: u32,
+        mask: u32,
+        token: *const u8,
+        token_len: usize,
+        self_id: *const u8,
+        self_len: usize,
+        descriptor: *const u8,
+        descriptor_len: usize,
+        policy: *const u8,
+        policy_len: usize,
+        asked: *mut u32,
+        normal: *mut u32,
+        confined: *mut u32,
+        ruled: *mut u32,
+        granted: *mut u32,
+        allowed: *mut u32,
+        staged: *mut u32,
+    ) -> u32;
+
+    /// One question, by the bytes of a question file, with its kind and the masks after each step.
+    /// The eight result words are written in every case.
+    ///
+    /// # Safety
+    ///
+    /// As for [`pirasteh_check`].
+    pub fn pirasteh_why_question(
+        file: *const u8,
+        file_len: usize,
+        kind: *mut u32,
+        asked: *mut u32,
+        normal: *mut u32,
+        confined: *mut u32,
+        ruled: *mut u32,
+        granted: *mut u32,
+        allowed: *mut u32,
+        staged: *mut u32,
+    ) -> u32;
+
     /// Packed token record to flat listing. `written` is written in every case, `out` only if the
     /// whole listing fits.
     ///

@@ -1,9 +1,10 @@
-//! The C header and this crate have the same names, values and version.
+//! The C header and this crate have the same functions, names, values and version.
 
-use pirasteh::{attribute, mask, privilege, token_flag, Error, Kind};
+use pirasteh::{attribute, mask, privilege, rights, token_flag, Error, Kind};
 use std::collections::BTreeMap;
 
 const HEADER: &str = include_str!("../../include/pirasteh.h");
+const RAW: &str = include_str!("../src/raw.rs");
 
 /// The names of a module with their values, for the header's names that begin with a prefix.
 macro_rules! values {
@@ -61,6 +62,70 @@ fn theirs() -> BTreeMap<String, u64> {
 #[test]
 fn numbers_have_the_same_names() {
     assert_eq!(ours(), theirs());
+}
+
+/// The functions that are declared behind this word, each as its name, `(`, and what it takes.
+fn declared<'a>(text: &'a str, before: &str) -> Vec<&'a str> {
+    text.split(before).skip(1).filter_map(|rest| Some(rest.split_once(')')?.0)).collect()
+}
+
+/// A parameter of the header in the words of Rust: `const uint8_t *file` is `file: *const u8`.
+fn in_rust(parameter: &str) -> String {
+    let (kind, name) = parameter.rsplit_once(' ').expect("a type and a name");
+    let pointer = name.starts_with('*');
+    let name = name.trim_start_matches('*');
+    let (constant, plain) = match kind.strip_prefix("const ") {
+        Some(plain) => (true, plain),
+        None => (false, kind),
+    };
+    let plain = match plain {
+        "uint8_t" => "u8",
+        "uint32_t" => "u32",
+        "size_t" => "usize",
+        other => panic!("{other} is a type that no function should have"),
+    };
+    match (pointer, constant) {
+        (true, true) => format!("{name}: *const {plain}"),
+        (true, false) => format!("{name}: *mut {plain}"),
+        (false, _) => format!("{name}: {plain}"),
+    }
+}
+
+/// The name of a function, and what it takes in this order, each put into other words.
+fn taken(function: &str, words: impl Fn(&str) -> String) -> (String, Vec<String>) {
+    let (name, parameters) = function.split_once('(').expect("parameters");
+    let parameters = parameters
+        .split(',')
+        .map(|parameter| words(&parameter.split_whitespace().collect::<Vec<_>>().join(" ")));
+    (name.to_owned(), parameters.filter(|parameter| !parameter.is_empty()).collect())
+}
+
+#[test]
+fn functions_take_the_same() {
+    let theirs: BTreeMap<_, _> =
+        declared(HEADER, "\nuint32_t ").iter().map(|function| taken(function, in_rust)).collect();
+    let ours: BTreeMap<_, _> =
+        declared(RAW, "pub fn ").iter().map(|function| taken(function, str::to_owned)).collect();
+    assert_eq!(ours, theirs);
+    assert_eq!(ours.len(), 6);
+}
+
+/// The names of single rights are the words of their constants, with abbreviations written out.
+#[test]
+fn rights_are_called_as_their_constants() {
+    let theirs = theirs();
+    let mut found = 0;
+    for (kind, prefix) in [(Kind::File, "FILE_"), (Kind::Key, "KEY_")] {
+        for bit in (0..32).map(|place| 1 << place) {
+            let Some(name) = rights::name(kind, bit) else { continue };
+            let words = name.replace("extended attributes", "ea").replace("subkey", "sub_key");
+            let constant = words.replace(' ', "_").to_uppercase();
+            let value = theirs.get(&format!("{prefix}{constant}")).or(theirs.get(&constant));
+            assert_eq!(value, Some(&u64::from(bit)), "{name}");
+            found += 1;
+        }
+    }
+    assert_eq!(found, 15 + 11);
 }
 
 #[test]

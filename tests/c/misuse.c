@@ -31,34 +31,56 @@ extern void null(void);
 
 void ignore(void)
 {
-    STATUS pirasteh_check(1, 2, b, n, b, n, b, n, b, n, w, w, w); /* unused-result */
-    STATUS pirasteh_question(b, n, w, w, w);                      /* unused-result */
-    STATUS pirasteh_list(b, n, o, n, l);                          /* unused-result */
-    STATUS pirasteh_pack(b, n, o, n, l);                          /* unused-result */
-    YES pirasteh_allows(1, 2, b, n, b, n, b, n, b, n);            /* unused-result */
+    STATUS pirasteh_check(1, 2, b, n, b, n, b, n, b, n, w, w, w);           /* unused-result */
+    STATUS pirasteh_question(b, n, w, w, w);                                /* unused-result */
+    STATUS pirasteh_why(1, 2, b, n, b, n, b, n, b, n, w, w, w, w, w, w, w); /* unused-result */
+    STATUS pirasteh_why_question(b, n, w, w, w, w, w, w, w, w);             /* unused-result */
+    STATUS pirasteh_list(b, n, o, n, l);                                    /* unused-result */
+    STATUS pirasteh_pack(b, n, o, n, l);                                    /* unused-result */
+    YES pirasteh_allows(1, 2, b, n, b, n, b, n, b, n);                      /* unused-result */
 }
 
 void null(void)
 {
-    status = pirasteh_check(1, 2, NO_BYTES, n, b, n, b, n, b, n, w, w, w); /* nonnull */
-    status = pirasteh_check(1, 2, b, n, NO_BYTES, 0, b, n, b, n, w, w, w); /* nonnull */
-    status = pirasteh_check(1, 2, b, n, b, n, NO_BYTES, n, b, n, w, w, w); /* nonnull */
-    status = pirasteh_check(1, 2, b, n, b, n, b, n, NO_BYTES, 0, w, w, w); /* nonnull */
-    status = pirasteh_check(1, 2, b, n, b, n, b, n, b, n, NO_WORD, w, w);  /* nonnull */
-    status = pirasteh_check(1, 2, b, n, b, n, b, n, b, n, w, NO_WORD, w);  /* nonnull */
-    status = pirasteh_check(1, 2, b, n, b, n, b, n, b, n, w, w, NO_WORD);  /* nonnull */
-    status = pirasteh_question(NO_BYTES, n, w, w, w);                      /* nonnull */
-    status = pirasteh_question(b, n, NO_WORD, w, w);                       /* nonnull */
-    status = pirasteh_question(b, n, w, NO_WORD, w);                       /* nonnull */
-    status = pirasteh_question(b, n, w, w, NO_WORD);                       /* nonnull */
-    status = pirasteh_list(NO_BYTES, n, o, n, l);                          /* nonnull */
-    status = pirasteh_list(b, n, NO_ROOM, n, l);                           /* nonnull */
-    status = pirasteh_list(b, n, o, n, NO_LENGTH);                         /* nonnull */
-    status = pirasteh_pack(NO_BYTES, n, o, n, l);                          /* nonnull */
-    status = pirasteh_pack(b, n, NO_ROOM, n, l);                           /* nonnull */
-    status = pirasteh_pack(b, n, o, n, NO_LENGTH);                         /* nonnull */
-    yes = pirasteh_allows(1, 2, NO_BYTES, n, b, n, b, n, b, n);            /* nonnull */
-    yes = pirasteh_allows(1, 2, b, n, NO_BYTES, 0, b, n, b, n);            /* nonnull */
-    yes = pirasteh_allows(1, 2, b, n, b, n, NO_BYTES, n, b, n);            /* nonnull */
-    yes = pirasteh_allows(1, 2, b, n, b, n, b, n, NO_BYTES, 0);            /* nonnull */
+    status = pirasteh_check(1, 2, NO_BYTES, n, b, n, b, n, b, n, w, w, w);           /* nonnull */
+    status = pirasteh_check(1, 2, b, n, NO_BYTES, 0, b, n, b, n, w, w, w);           /* nonnull */
+    status = pirasteh_check(1, 2, b, n, b, n, NO_BYTES, n, b, n, w, w, w);           /* nonnull */
+    status = pirasteh_check(1, 2, b, n, b, n, b, n, NO_BYTES, 0, w, w, w);           /* nonnull */
+    status = pirasteh_check(1, 2, b, n, b, n, b, n, b, n, NO_WORD, w, w);            /* nonnull */
+    status = pirasteh_check(1, 2, b, n, b, n, b, n, b, n, w, NO_WORD, w);            /* nonnull */
+    status = pirasteh_check(1, 2, b, n, b, n, b, n, b, n, w, w, NO_WORD);            /* nonnull */
+    status = pirasteh_question(NO_BYTES, n, w, w, w);                                /* nonnull */
+    status = pirasteh_question(b, n, NO_WORD, w, w);                                 /* nonnull */
+    status = pirasteh_question(b, n, w, NO_WORD, w);                                 /* nonnull */
+    status = pirasteh_question(b, n, w, w, NO_WORD);                                 /* nonnull */
+    status = pirasteh_why(1, 2, NO_BYTES, n, b, n, b, n, b, n, w, w, w, w, w, w, w); /* nonnull */
+    status = pirasteh_why(1, 2, b, n, NO_BYTES, 0, b, n, b, n, w, w, w, w, w, w, w); /* nonnull */
+    status = pirasteh_why(1, 2, b, n, b, n, NO_BYTES, n, b, n, w, w, w, w, w, w, w); /* nonnull */
+    status = pirasteh_why(1, 2, b, n, b, n, b, n, NO_BYTES, 0, w, w, w, w, w, w, w); /* nonnull */
+    status = pirasteh_why(1, 2, b, n, b, n, b, n, b, n, NO_WORD, w, w, w, w, w, w);  /* nonnull */
+    status = pirasteh_why(1, 2, b, n, b, n, b, n, b, n, w, NO_WORD, w, w, w, w, w);  /* nonnull */
+    status = pirasteh_why(1, 2, b, n, b, n, b, n, b, n, w, w, NO_WORD, w, w, w, w);  /* nonnull */
+    status = pirasteh_why(1, 2, b, n, b, n, b, n, b, n, w, w, w, NO_WORD, w, w, w);  /* nonnull */
+    status = pirasteh_why(1, 2, b, n, b, n, b, n, b, n, w, w, w, w, NO_WORD, w, w);  /* nonnull */
+    status = pirasteh_why(1, 2, b, n, b, n, b, n, b, n, w, w, w, w, w, NO_WORD, w);  /* nonnull */
+    status = pirasteh_why(1, 2, b, n, b, n, b, n, b, n, w, w, w, w, w, w, NO_WORD);  /* nonnull */
+    status = pirasteh_why_question(NO_BYTES, n, w, w, w, w, w, w, w, w);             /* nonnull */
+    status = pirasteh_why_question(b, n, NO_WORD, w, w, w, w, w, w, w);              /* nonnull */
+    status = pirasteh_why_question(b, n, w, NO_WORD, w, w, w, w, w, w);              /* nonnull */
+    status = pirasteh_why_question(b, n, w, w, NO_WORD, w, w, w, w, w);              /* nonnull */
+    status = pirasteh_why_question(b, n, w, w, w, NO_WORD, w, w, w, w);              /* nonnull */
+    status = pirasteh_why_question(b, n, w, w, w, w, NO_WORD, w, w, w);              /* nonnull */
+    status = pirasteh_why_question(b, n, w, w, w, w, w, NO_WORD, w, w);              /* nonnull */
+    status = pirasteh_why_question(b, n, w, w, w, w, w, w, NO_WORD, w);              /* nonnull */
+    status = pirasteh_why_question(b, n, w, w, w, w, w, w, w, NO_WORD);              /* nonnull */
+    status = pirasteh_list(NO_BYTES, n, o, n, l);                                    /* nonnull */
+    status = pirasteh_list(b, n, NO_ROOM, n, l);                                     /* nonnull */
+    status = pirasteh_list(b, n, o, n, NO_LENGTH);                                   /* nonnull */
+    status = pirasteh_pack(NO_BYTES, n, o, n, l);                                    /* nonnull */
+    status = pirasteh_pack(b, n, NO_ROOM, n, l);                                     /* nonnull */
+    status = pirasteh_pack(b, n, o, n, NO_LENGTH);                                   /* nonnull */
+    yes = pirasteh_allows(1, 2, NO_BYTES, n, b, n, b, n, b, n);                      /* nonnull */
+    yes = pirasteh_allows(1, 2, b, n, NO_BYTES, 0, b, n, b, n);                      /* nonnull */
+    yes = pirasteh_allows(1, 2, b, n, b, n, NO_BYTES, n, b, n);                      /* nonnull */
+    yes = pirasteh_allows(1, 2, b, n, b, n, b, n, NO_BYTES, 0);                      /* nonnull */
 }

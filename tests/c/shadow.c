@@ -1,7 +1,7 @@
 /* The header hides no name that its user has already. Compiled with -Wshadow. */
 extern int kind, mask;
 extern int token, token_len, self_id, self_len, descriptor, descriptor_len, policy, policy_len;
-extern int granted, allowed, staged, status;
+extern int asked, normal, confined, ruled, granted, allowed, staged, status;
 extern int file, file_len, record, record_len, listing, listing_len, out, out_len, written;
 
 #include "pirasteh.h"

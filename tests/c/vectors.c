@@ -3,9 +3,10 @@
  *     vectors FILE..
  *
  * tests/README.md has the form of the files; whatever does not have it is a failure. A question
- * goes through pirasteh_question as it is, and through pirasteh_check and pirasteh_allows in the
- * parts that a reader of this program's own finds in it. A conversion goes both ways, into rooms
- * of several sizes. The exit code is 0 only if there was a case and nothing failed.
+ * goes through pirasteh_question and pirasteh_why_question as it is, and through pirasteh_check,
+ * pirasteh_why and pirasteh_allows in the parts that a reader of this program's own finds in it. A
+ * conversion goes both ways, into rooms of several sizes. The exit code is 0 only if there was a
+ * case and nothing failed.
  *
  * Inputs and rooms are exactly as long as they are said to be, so that a memory checker sees a
  * byte too far. A sanitizer sees it in this program and in the C library only, since the archive
@@ -109,19 +110,25 @@ static int give_back(struct bytes *lent, struct view original)
 
 /* ---- cases, and what is said of them ---- */
 
-/* Lines up to a blank one: `#` lines, then two fields. */
+/* Lines up to a blank one: `#` lines, then two fields, or three. */
 struct block {
     const char *file;
     unsigned long line; /* its first, 0 if there is none yet */
     const char *reason;
     int broken;
     int fields;
-    const char *name[2];
-    const char *value[2];
+    const char *name[3];
+    const char *value[3];
 };
 
 struct answer {
     uint32_t status, granted, allowed, staged;
+};
+
+/* An answer, and the way there: what was asked, and what each step left of it. */
+struct why {
+    struct answer answer;
+    uint32_t kind, asked, normal, confined, ruled;
 };
 
 static int failed(const struct block *block, const char *what)
@@ -149,6 +156,34 @@ static int answers(const struct block *block, const char *who, const struct answ
     failed(block, who);
     print_answer("said    ", said);
     print_answer("expected", expected);
+    return 0;
+}
+
+static void print_why(const char *before, const struct why *why)
+{
+    unsigned long kind = why->kind;
+    unsigned long asked = why->asked;
+    unsigned long normal = why->normal;
+    unsigned long confined = why->confined;
+    unsigned long ruled = why->ruled;
+    print_answer(before, &why->answer);
+    printf("  %s kind %lu asked 0x%08lx normal 0x%08lx confined 0x%08lx ruled 0x%08lx\n", before,
+           kind, asked, normal, confined, ruled);
+}
+
+static int explains(const struct block *block, const char *who, const struct why *said,
+                    const struct why *expected)
+{
+    if (said->answer.status == expected->answer.status &&
+        said->answer.granted == expected->answer.granted &&
+        said->answer.allowed == expected->answer.allowed &&
+        said->answer.staged == expected->answer.staged && said->kind == expected->kind &&
+        said->asked == expected->asked && said->normal == expected->normal &&
+        said->confined == expected->confined && said->ruled == expected->ruled)
+        return 1;
+    failed(block, who);
+    print_why("said    ", said);
+    print_why("expected", expected);
     return 0;
 }
 
@@ -224,17 +259,41 @@ static int parse_flags(const char *text, struct answer *expected)
     return 0;
 }
 
-/* What follows `granted 0x`: eight digits, then the flags. */
-static int parse_granted(const char *text, struct answer *expected)
+/* Eight digits. */
+static int parse_word(const char *text, uint32_t *word)
 {
     int i;
+    *word = 0;
     for (i = 0; i < 8; i++, text++) {
         uint32_t digit = hex_digit(*text);
         if (digit == 16)
             return 0;
-        expected->granted = expected->granted << 4 | digit;
+        *word = *word << 4 | digit;
     }
-    return parse_flags(text, expected);
+    return 1;
+}
+
+/* What follows `granted 0x`: eight digits, then the flags. */
+static int parse_granted(const char *text, struct answer *expected)
+{
+    return parse_word(text, &expected->granted) && parse_flags(text + 8, expected);
+}
+
+/* Four masks with a space between them, of which the last is the granted one. */
+static int parse_masks(const char *text, struct why *expected)
+{
+    uint32_t mask[4];
+    int i;
+    for (i = 0; i < 4; i++, text += strlen("0x") + 8) {
+        if (i > 0 && *text++ != ' ')
+            return 0;
+        if (!starts(text, "0x") || !parse_word(text + strlen("0x"), &mask[i]))
+            return 0;
+    }
+    expected->normal = mask[0];
+    expected->confined = mask[1];
+    expected->ruled = mask[2];
+    return *text == 0 && mask[3] == expected->answer.granted;
 }
 
 static int parse_line(const char *text, struct answer *expected)
@@ -298,6 +357,26 @@ static int read_question(struct view file, struct question *question)
     return file.length == 0;
 }
 
+/* The bits that a question asks for: generic bits mapped, and all for the maximum. */
+static uint32_t asked_of(uint32_t kind, uint32_t mask)
+{
+    static const uint32_t bit[] = {PIRASTEH_GENERIC_READ, PIRASTEH_GENERIC_WRITE,
+                                   PIRASTEH_GENERIC_EXECUTE, PIRASTEH_GENERIC_ALL,
+                                   PIRASTEH_MAXIMUM_ALLOWED};
+    static const uint32_t file[] = {PIRASTEH_FILE_GENERIC_READ, PIRASTEH_FILE_GENERIC_WRITE,
+                                    PIRASTEH_FILE_GENERIC_EXECUTE, PIRASTEH_FILE_ALL_ACCESS,
+                                    PIRASTEH_FILE_ALL_ACCESS};
+    static const uint32_t key[] = {PIRASTEH_KEY_READ, PIRASTEH_KEY_WRITE, PIRASTEH_KEY_EXECUTE,
+                                   PIRASTEH_KEY_ALL_ACCESS, PIRASTEH_KEY_ALL_ACCESS};
+    uint32_t asked = mask;
+    int i;
+    for (i = 0; i < 5; i++) {
+        if (mask & bit[i])
+            asked = (asked & ~bit[i]) | (kind == PIRASTEH_FILE ? file[i] : key[i]);
+    }
+    return asked;
+}
+
 /* ---- questions ---- */
 
 static struct answer rubbish_answer(void)
@@ -305,6 +384,14 @@ static struct answer rubbish_answer(void)
     struct answer answer;
     answer.status = answer.granted = answer.allowed = answer.staged = RUBBISH_WORD;
     return answer;
+}
+
+static struct why rubbish_why(void)
+{
+    struct why why;
+    why.answer = rubbish_answer();
+    why.kind = why.asked = why.normal = why.confined = why.ruled = RUBBISH_WORD;
+    return why;
 }
 
 static struct answer call_question(const struct bytes *file)
@@ -325,6 +412,29 @@ static struct answer call_check(const struct question *question, const struct by
     return said;
 }
 
+static struct why call_why_question(const struct bytes *file)
+{
+    struct why said = rubbish_why();
+    said.answer.status = pirasteh_why_question(file->at, file->length, &said.kind, &said.asked,
+                                               &said.normal, &said.confined, &said.ruled,
+                                               &said.answer.granted, &said.answer.allowed,
+                                               &said.answer.staged);
+    return said;
+}
+
+/* It does not tell the kind. */
+static struct why call_why(const struct question *question, const struct bytes *part)
+{
+    struct why said = rubbish_why();
+    said.answer.status = pirasteh_why(question->kind, question->mask,
+                                      part[0].at, part[0].length, part[1].at, part[1].length,
+                                      part[2].at, part[2].length, part[3].at, part[3].length,
+                                      &said.asked, &said.normal, &said.confined, &said.ruled,
+                                      &said.answer.granted, &said.answer.allowed,
+                                      &said.answer.staged);
+    return said;
+}
+
 static int call_allows(const struct question *question, const struct bytes *part)
 {
     return pirasteh_allows(question->kind, question->mask,
@@ -339,6 +449,15 @@ static int ask_whole(const struct block *block, struct view file, const struct a
     if (!give_back(&lent, file))
         return failed(block, "pirasteh_question changed its input");
     return answers(block, "pirasteh_question", &said, expected);
+}
+
+static int explain_whole(const struct block *block, struct view file, const struct why *expected)
+{
+    struct bytes lent = copy_of(file);
+    struct why said = call_why_question(&lent);
+    if (!give_back(&lent, file))
+        return failed(block, "pirasteh_why_question changed its input");
+    return explains(block, "pirasteh_why_question", &said, expected);
 }
 
 static void lend_parts(struct bytes *lent, const struct question *question)
@@ -369,6 +488,19 @@ static int check_parts(const struct block *block, const struct question *questio
     return answers(block, "pirasteh_check", &said, expected);
 }
 
+static int explain_parts(const struct block *block, const struct question *question,
+                         const struct why *expected)
+{
+    struct bytes lent[4];
+    struct why said;
+    lend_parts(lent, question);
+    said = call_why(question, lent);
+    said.kind = expected->kind;
+    if (!give_parts_back(lent, question))
+        return failed(block, "pirasteh_why changed its input");
+    return explains(block, "pirasteh_why", &said, expected);
+}
+
 static int allow_parts(const struct block *block, const struct question *question,
                        const struct answer *expected)
 {
@@ -384,26 +516,51 @@ static int allow_parts(const struct block *block, const struct question *questio
     return 1;
 }
 
-static int ask_both(const struct block *block, struct view file, const struct answer *expected)
+static int ask_parts(const struct block *block, const struct question *question,
+                     const struct why *expected)
+{
+    return check_parts(block, question, &expected->answer) &&
+           explain_parts(block, question, expected) &&
+           allow_parts(block, question, &expected->answer);
+}
+
+static int ask_both(const struct block *block, struct view file, struct why *expected)
 {
     struct question question;
     int readable = read_question(file, &question);
-    if (!ask_whole(block, file, expected))
+    if (readable && expected->answer.status == PIRASTEH_ANSWERED) {
+        expected->kind = question.kind;
+        expected->asked = asked_of(question.kind, question.mask);
+    }
+    if (!ask_whole(block, file, &expected->answer) || !explain_whole(block, file, expected))
         return 0;
-    if (expected->status == PIRASTEH_FILE_SHAPE)
+    if (expected->answer.status == PIRASTEH_FILE_SHAPE)
         return readable ? failed(block, "12 is expected, but the file can be read") : 1;
     if (!readable)
         return failed(block, "12 is not expected, but the file cannot be read");
-    return check_parts(block, &question, expected) && allow_parts(block, &question, expected);
+    return ask_parts(block, &question, expected);
+}
+
+/* An answer has masks, and a refusal has none: all of its words are 0. */
+static int parse_expected(const struct block *block, struct why *expected)
+{
+    memset(expected, 0, sizeof *expected);
+    if (!parse_line(block->value[1], &expected->answer))
+        return failed(block, "malformed: `line` is neither an answer nor a refusal");
+    if ((expected->answer.status == PIRASTEH_ANSWERED) != (block->fields == 3))
+        return failed(block, "malformed: an answer without `masks`, or a refusal with them");
+    if (block->fields == 3 && !parse_masks(block->value[2], expected))
+        return failed(block, "malformed: `masks` is not four masks, the last of them granted");
+    return 1;
 }
 
 static int run_ask(const struct block *block)
 {
-    struct answer expected;
+    struct why expected;
     struct bytes file;
     int fine;
-    if (!parse_line(block->value[1], &expected))
-        return failed(block, "malformed: `line` is neither an answer nor a refusal");
+    if (!parse_expected(block, &expected))
+        return 0;
     if (!decode(block->value[0], &file))
         return failed(block, "malformed: `ask` is not pairs of hexadecimal digits");
     fine = ask_both(block, view_of(&file), &expected);
@@ -538,10 +695,14 @@ static int has(const struct block *block, const char *first, const char *second)
 
 static int run_case(const struct block *block)
 {
-    if (block->fields != 2)
+    if (block->fields < 2)
         return failed(block, "malformed: one field alone");
+    if (block->fields == 3 && strcmp(block->name[2], "masks") != 0)
+        return failed(block, "malformed: the third field is not `masks`");
     if (has(block, "ask", "line"))
         return run_ask(block);
+    if (block->fields == 3)
+        return failed(block, "malformed: `masks` of no question");
     if (has(block, "record", "listing"))
         return run_conversion(block);
     if (has(block, "record", "refused"))
@@ -581,8 +742,8 @@ static const char *add_field(struct block *block, char *line)
     char *mark = strstr(line, " = ");
     if (!mark)
         return "malformed: no ` = ` in a line";
-    if (block->fields == 2)
-        return "malformed: a third field";
+    if (block->fields == 3)
+        return "malformed: a fourth field";
     *mark = 0;
     block->name[block->fields] = line;
     block->value[block->fields] = mark + strlen(" = ");

@@ -12,6 +12,7 @@ use Rattle.passes.specs.Matching.{hitsOf}
 use Rattle.passes.specs.NormalEvaluation.{Dacl, normalOf}
 use Rattle.passes.specs.Confinement.{confinementOf}
 use Rattle.policy.specs.Rules.{Lists, ruledBy}
+use Rattle.lists.specs.declared.acl.Rights.{Rights}
 use Rattle.access.specs.declared.answer.Found.{Found}
 use Rattle.access.specs.declared.answer.Answer.{Answer}
 
@@ -33,9 +34,13 @@ foundOf kind t owner self d rules =
 
 -- ---- read off for a mask
 
--- "Granted: asked bits left"; "no granted bit lies outside the bits asked"
-abbrev pub grantedOf : ℕ → ℕ → Found → ℕ
-grantedOf kind mask f = and (asked kind mask) (f .ruled .0)
+-- "each limited to asked bits" (request 106): of the bits found after a step those that are asked
+abbrev pub limited : ℕ → ℕ → Rights → Rights
+limited kind mask found = record { 0 = and (asked kind mask) (found .0) }
+
+-- "Granted: asked bits left by normal evaluation, confinement and every rule's result"
+abbrev pub grantedOf : ℕ → ℕ → Found → Rights
+grantedOf kind mask f = limited kind mask (f .ruled)
 
 -- "Allowed: every explicit bit is granted, and the granted mask is not 0 if 0x02000000 was asked."
 abbrev pub allowedOf : ℕ → ℕ → ℕ → Bool
@@ -45,7 +50,16 @@ allowedOf kind mask granted = covers granted (explicit kind mask) && (not (has m
 abbrev pub stagedOf : ℕ → ℕ → Found → Bool
 stagedOf kind mask f = has (asked kind mask) (f .differ .0)
 
+-- "four masks: after normal evaluation, after confinement, after policy, and granted" (request 106)
 unfoldable pub answerOf : ℕ → ℕ → Found → Answer
 answerOf kind mask f =
-    let g = grantedOf kind mask f in
-    record { status = 0; granted = record { 0 = g }; allowed = allowedOf kind mask g; staged = stagedOf kind mask f }
+    let g : Rights = grantedOf kind mask f in
+    record {
+      status = 0;
+      normal = limited kind mask (f .normal);
+      confined = limited kind mask (f .confined);
+      ruled = limited kind mask (f .ruled);
+      granted = g;
+      allowed = allowedOf kind mask (g .0);
+      staged = stagedOf kind mask f;
+    }

@@ -10,6 +10,7 @@ use Rattle.base.specs.Bytes.Read.{none, some}
 use Rattle.base.specs.Sevens.{number}
 use Rattle.access.specs.Status.{Question, checked, refused}
 use Rattle.access.specs.declared.answer.Answer.{Answer}
+use Rattle.access.specs.declared.file.Desired.{Desired}
 
 -- a length and so many bytes
 unfoldable pub blobAt : List ℕ → ℕ → Read (List ℕ)
@@ -31,3 +32,11 @@ answering (some q end) = checked q
 
 unfoldable pub fileAnswer : List ℕ → Answer
 fileAnswer s = let r = answering (questionOf s) in cond (ltb 65536 (length s)) (refused 12) r
+
+-- the object kind and the desired mask of the question that a file holds; 0 and 0 where it holds none
+abbrev pub desiredOf : Read Question → Desired
+desiredOf none = record { kind = 0; mask = record { 0 = 0 } }
+desiredOf (some q end) = record { kind = q .kind; mask = record { 0 = q .mask } }
+
+abbrev pub fileDesires : List ℕ → Desired
+fileDesires s = desiredOf (questionOf s)

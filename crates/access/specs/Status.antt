@@ -32,9 +32,18 @@ pub record Question : Type 0 where
   pub descriptor : List ℕ
   pub policy : List ℕ
 
--- "On refusal mask 0, allowed no, flag clear"
+-- "On refusal mask 0, allowed no, flag clear"; "A refusal zeroes all four" masks (request 106)
 abbrev pub refused : ℕ → Answer
-refused n = record { status = n; granted = record { 0 = 0 }; allowed = false; staged = false }
+refused n =
+    record {
+      status = n;
+      normal = record { 0 = 0 };
+      confined = record { 0 = 0 };
+      ruled = record { 0 = 0 };
+      granted = record { 0 = 0 };
+      allowed = false;
+      staged = false;
+    }
 
 -- 5: "self identity neither empty nor exactly one SID"
 unfoldable pub selfFits : List ℕ → Bool

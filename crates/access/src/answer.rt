@@ -21,9 +21,13 @@ pub struct Findings {
     pub found: Found,
 }
 
-// The page's status number, the granted mask, allowed yes or no, and the staging flag.
+// The page's status number; of the asked bits those after normal evaluation, after confinement and
+// after policy, and those granted; allowed yes or no, and the staging flag.
 pub struct Answer {
     pub status: u32,
+    pub normal: Rights,
+    pub confined: Rights,
+    pub ruled: Rights,
     pub granted: Rights,
     pub allowed: bool,
     pub staged: bool,
@@ -44,13 +48,18 @@ pub(crate) fn stopped(status: u32) -> Findings
     }
 }
 
-// An answer that is refused with a number: "On refusal mask 0, allowed no, flag clear".
+// An answer that is refused with a number: "On refusal mask 0, allowed no, flag clear"; "A refusal
+// zeroes all four" masks.
 pub(crate) fn refused(status: u32) -> Answer
     ensures { λ r. ⌜ r ≡ refused status ⌝ }
 {
+    let none = Tally::NONE;
     Answer {
         status,
-        granted: Tally::NONE,
+        normal: none,
+        confined: none,
+        ruled: none,
+        granted: none,
         allowed: false,
         staged: false,
     }
@@ -75,11 +84,16 @@ pub(crate) fn read_off(kind: u32, mask: Rights, f: Found) -> Answer
     ensures { λ r. ⌜ r ≡ answerOf kind (mask .0) f ⌝ }
 {
     let asked = masks::asked(kind, mask);
-    let granted = Rights(asked.0 & f.ruled.0);
+    let normal = Rights(asked.0 & f.normal.0);
+    let confined = Rights(asked.0 & f.confined.0);
+    let ruled = Rights(asked.0 & f.ruled.0);
     Answer {
         status: 0,
-        granted,
-        allowed: is_allowed(kind, mask, granted),
+        normal,
+        confined,
+        ruled,
+        granted: ruled,
+        allowed: is_allowed(kind, mask, ruled),
         staged: asked.0 & f.differ.0 != 0,
     }
 }

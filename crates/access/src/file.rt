@@ -3,7 +3,7 @@
 ghost use mathlib.Core.Path.{_≡_};
 ghost use Prim.Native.Nat.{_≤_};
 ghost use lib.ListN.{length};
-ghost use Rattle.access.specs.QuestionFile.{blobAt, questionOf, fileAnswer};
+ghost use Rattle.access.specs.QuestionFile.{blobAt, questionOf, fileAnswer, fileDesires};
 ghost use Rattle.access.specs.Blobs.{noBlob, bytesIn, handed, nowhere, posed, PlacesLie};
 use crate::answer::Answer;
 use crate::answer::refused;
@@ -26,6 +26,12 @@ pub struct Places {
     pub me: Blob,
     pub descriptor: Blob,
     pub policy: Blob,
+}
+
+// What a question desires: the kind and the mask, and nothing of the rest.
+pub struct Desired {
+    pub kind: u32,
+    pub mask: Rights,
 }
 
 // No part.
@@ -160,4 +166,19 @@ pub fn question(s: &[u8]) -> Answer
     let descriptor = bytes_in(s, p.descriptor);
     let policy = bytes_in(s, p.policy);
     check(p.kind, p.mask, token, me, descriptor, policy)
+}
+
+// What the question of a file desires, whatever it is answered; 0 and 0 where the file holds none.
+pub fn desired_in(s: &[u8]) -> Desired
+    ensures { λ r. ⌜ r ≡ fileDesires (now (s .entry)) ⌝ }
+{
+    let p = parse(s);
+    if !p.ok {
+        return Desired {
+            kind: 0,
+            mask: Rights(0),
+        };
+    }
+    let mask = p.mask;
+    Desired { kind: p.kind, mask }
 }

@@ -8,4 +8,6 @@ mod finding;
 
 pub use answer::Answer;
 pub use decide::check;
+pub use file::Desired;
+pub use file::desired_in;
 pub use file::question;

@@ -3,6 +3,7 @@
 use mathlib.Core.Path.{_≡_, refl}
 use mathlib.Core.List.{[], _∷_, map}
 use mathlib.Core.Bool.{true, false}
+use Rattle.base.specs.Bits.{bit}
 use Rattle.records.specs.Token.{Token, unconfined}
 use Rattle.records.specs.FlatListing.{listingOf}
 use Rattle.records.specs.Converters.{asListing, fitted, refusal, result}
@@ -11,6 +12,9 @@ use Rattle.access.specs.QuestionFile.{fileAnswer}
 use Rattle.access.specs.declared.answer.Answer.{Answer}
 use Rattle.cards.specs.Cards.{TU, Card, cards, refusals, file-c1, file-long, given}
 use Rattle.cards.specs.ConditionalCards.{conditional}
+use Rattle.cards.specs.StepCards.{scanner, steps}
+use Rattle.demands.specs.FourMasks.{takes}
+use Rattle.demands.specs.FourMasks.Step.{normal-evaluation, confinement, policy}
 use Rattle.cards.proofs.Opened.{the-page}
 
 abbrev tokenTU : Token
@@ -42,6 +46,17 @@ refusals-hold = refl
 pub conditional-hold : map checkedCard conditional ≡ map expected conditional
 unfolding the-page
 conditional-hold = refl
+
+-- request 106 worked out
+pub steps-hold : map checkedCard steps ≡ map expected steps
+unfolding the-page
+steps-hold = refl
+
+-- where the scanner lost write data, execute and delete: the bits at places 1, 5 and 16
+pub lost-where : (takes policy 0x10023 (checked scanner) 1 ≡ true) × (takes confinement 0x10023 (checked scanner) 5 ≡ true)
+    × (takes normal-evaluation 0x10023 (checked scanner) 16 ≡ true)
+unfolding the-page bit
+lost-where = (refl, refl, refl)
 
 -- card c1 as a file of 82 bytes; the same with a byte after it is 12
 pub file-holds : fileAnswer file-c1 ≡ given 0x120089 true false

@@ -11,7 +11,7 @@ use lib.ListN.{take}
 use Rattle.lists.specs.Descriptor.{ownerOf}
 use Rattle.policy.specs.Rules.{rulesOf}
 use Rattle.access.specs.Status.{Question, checked, daclIn}
-use Rattle.cards.specs.Cards.{asks, given, TU, D, token-1, descriptor-1, descriptor-3}
+use Rattle.cards.specs.Cards.{asks, stepwise, given, TU, D, token-1, descriptor-1, descriptor-3}
 use Rattle.access.specs.declared.answer.Answer.{Answer}
 use Rattle.cards.proofs.Opened.{the-page}
 
@@ -49,7 +49,7 @@ pub record Worked : Type 0 where
   pub both-given : checked both ≡ given 1 false false
   pub denied-given : checked denied ≡ given 0 false false
   pub wide-given : checked wide ≡ given 3 true false
-  pub narrowed-given : checked narrowed ≡ given 1 false false
+  pub narrowed-given : checked narrowed ≡ stepwise 3 3 1 1 false false
   pub same-owner : ownerOf (both .descriptor) ≡ ownerOf (denied .descriptor)
   pub same-present : daclIn (both .descriptor) .present ≡ daclIn (denied .descriptor) .present
   pub same-first : take 1 (daclIn (both .descriptor) .entries) ≡ take 1 (daclIn (denied .descriptor) .entries)

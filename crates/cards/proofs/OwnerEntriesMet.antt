@@ -16,7 +16,7 @@ use Rattle.demands.specs.OwnerEntries.{OwnerEntry, GoesBy, OwnerAsks, ownersRig
 use Rattle.demands.specs.OwnerEntries.GoesBy.{descriptors, rules}
 use Rattle.demands.proofs.OwnerEntriesLaws.{named-when}
 use Rattle.demands.proofs.OwnersRightsLaws.{owner-keeps, owner-loses}
-use Rattle.cards.specs.Cards.{asks, given, TW, D}
+use Rattle.cards.specs.Cards.{asks, stepwise, given, TW, D}
 use Rattle.cards.proofs.Opened.{the-page}
 
 -- a list of one entry, which denies S-1-3-4 nothing, with these flags
@@ -43,9 +43,9 @@ pub record Instances : Type 0 where
   pub folder-kept : checked (folder 0x0B) ≡ given 0x60000 true false
   pub folder-lost : checked (folder 0x13) ≡ given 0 false false
   pub rule-kept : checked (house 0x0B 0x0B) ≡ given 0x60000 true false
-  pub rule-lost : checked (house 0x13 0x13) ≡ given 0 false false
+  pub rule-lost : checked (house 0x13 0x13) ≡ stepwise 0x60000 0x60000 0 0 false false
   pub staged-lost : checked (house 0x0B 0x13) ≡ given 0x60000 true true
-  pub staged-kept : checked (house 0x13 0x0B) ≡ given 0 false true
+  pub staged-kept : checked (house 0x13 0x0B) ≡ stepwise 0x60000 0x60000 0 0 false true
   pub folder-apart : byObject (folder 0x0B) ≡ given 0x60000 true false
   pub owner-asks : OwnerAsks (folder 0x0B)
   pub counted : OwnerEntry (daclIn (folder 0x13 .descriptor) .entries)

@@ -10,8 +10,22 @@ use Rattle.access.specs.declared.answer.Answer.{Answer}
 abbrev pub asks : ℕ → ℕ → List ℕ → List ℕ → List ℕ → List ℕ → Question
 asks k m t s d p = record { kind = k; mask = m; token = t; self = s; descriptor = d; policy = p }
 
+-- an answer by its masks after normal evaluation, after confinement, after policy, and granted; then allowed and staged
+abbrev pub stepwise : ℕ → ℕ → ℕ → ℕ → Bool → Bool → Answer
+stepwise n c p g a s =
+    record {
+      status = 0;
+      normal = record { 0 = n };
+      confined = record { 0 = c };
+      ruled = record { 0 = p };
+      granted = record { 0 = g };
+      allowed = a;
+      staged = s;
+    }
+
+-- an answer whose masks are the same after every step
 abbrev pub given : ℕ → Bool → Bool → Answer
-given g a s = record { status = 0; granted = record { 0 = g }; allowed = a; staged = s }
+given g a s = stepwise g g g g a s
 
 pub record Card : Type 0 where
   pub question : Question
@@ -185,40 +199,40 @@ policy-7 =
     1 ∷ 1 ∷ 0 ∷ 0 ∷ 0 ∷ 4 ∷ 0 ∷ 0 ∷ 0 ∷ 97 ∷ 114 ∷ 116 ∷ 120 ∷ 8 ∷ 0 ∷ 0 ∷ 0 ∷ 2 ∷ 0 ∷ 8 ∷ 0 ∷ 0 ∷ 0 ∷ 0 ∷ 0 ∷ 0 ∷ 0 ∷ 0 ∷ 0 ∷ 0 ∷ 0 ∷ 0
     ∷ 0 ∷ 0 ∷ 0 ∷ 0 ∷ 0 ∷ []
 
--- ---- the cards
+-- ---- the cards, each with its four masks (request 106)
 
 abbrev pub cards : List Card
 cards =
     -- c1 TU on D asks generic read
-    (asks 1 0x80000000 TU [] D [] ⇒ given 0x120089 true false) ∷
+    (asks 1 0x80000000 TU [] D [] ⇒ stepwise 0x120089 0x120089 0x120089 0x120089 true false) ∷
     -- c2 TW: the owner has its two rights only
-    (asks 1 0x80000000 TW [] D [] ⇒ given 0x20000 false false) ∷
+    (asks 1 0x80000000 TW [] D [] ⇒ stepwise 0x20000 0x20000 0x20000 0x20000 false false) ∷
     -- c3 a key, maximum
-    (asks 2 0x2000000 TU [] D [] ⇒ given 0x20019 true false) ∷
+    (asks 2 0x2000000 TU [] D [] ⇒ stepwise 0x20019 0x20019 0x20019 0x20019 true false) ∷
     -- c4 deny to group G enabled, then allow
-    (asks 1 0x3 token-1 [] descriptor-1 [] ⇒ given 0x1 false false) ∷
+    (asks 1 0x3 token-1 [] descriptor-1 [] ⇒ stepwise 0x1 0x1 0x1 0x1 false false) ∷
     -- c4 G with 0x10 only
-    (asks 1 0x3 token-2 [] descriptor-1 [] ⇒ given 0x1 false false) ∷
+    (asks 1 0x3 token-2 [] descriptor-1 [] ⇒ stepwise 0x1 0x1 0x1 0x1 false false) ∷
     -- c5 attributes 0
-    (asks 1 0x3 token-3 [] descriptor-1 [] ⇒ given 0x3 true false) ∷
+    (asks 1 0x3 token-3 [] descriptor-1 [] ⇒ stepwise 0x3 0x3 0x3 0x3 true false) ∷
     -- c6 the entries swapped
-    (asks 1 0x3 token-1 [] descriptor-2 [] ⇒ given 0x3 true false) ∷
+    (asks 1 0x3 token-1 [] descriptor-2 [] ⇒ stepwise 0x3 0x3 0x3 0x3 true false) ∷
     -- c7 one rule, staged, asks 3
-    (asks 1 0x3 TU [] descriptor-3 policy-1 ⇒ given 0x1 false true) ∷
+    (asks 1 0x3 TU [] descriptor-3 policy-1 ⇒ stepwise 0x3 0x3 0x1 0x1 false true) ∷
     -- c7 asks 1
-    (asks 1 0x1 TU [] descriptor-3 policy-1 ⇒ given 0x1 true false) ∷
+    (asks 1 0x1 TU [] descriptor-3 policy-1 ⇒ stepwise 0x1 0x1 0x1 0x1 true false) ∷
     -- c8 confined
-    (asks 1 0x80000000 token-4 [] D [] ⇒ given 0x0 false false) ∷
+    (asks 1 0x80000000 token-4 [] D [] ⇒ stepwise 0x120089 0x0 0x0 0x0 false false) ∷
     -- c8 flags 03, exempt
-    (asks 1 0x80000000 token-5 [] D [] ⇒ given 0x120089 true false) ∷
+    (asks 1 0x80000000 token-5 [] D [] ⇒ stepwise 0x120089 0x120089 0x120089 0x120089 true false) ∷
     -- c9 confined with SeSecurity, null list
-    (asks 1 0x1000001 token-6 [] descriptor-4 [] ⇒ given 0x1 false false) ∷
+    (asks 1 0x1000001 token-6 [] descriptor-4 [] ⇒ stepwise 0x1000001 0x1 0x1 0x1 false false) ∷
     -- c10 asks nothing
-    (asks 1 0x0 TU [] D [] ⇒ given 0x0 true false) ∷
+    (asks 1 0x0 TU [] D [] ⇒ stepwise 0x0 0x0 0x0 0x0 true false) ∷
     -- c11 80 00 for a number: for the flags
     (asks 1 0x80000000 token-7 [] D [] ⇒ refused 3) ∷
     -- c12 a policy of no rules answers as none
-    (asks 1 0x80000000 TU [] D policy-2 ⇒ given 0x120089 true false) ∷
+    (asks 1 0x80000000 TU [] D policy-2 ⇒ stepwise 0x120089 0x120089 0x120089 0x120089 true false) ∷
     -- c12 257 rules
     (asks 1 0x80000000 TU [] D (policyOf 257) ⇒ refused 9) ∷
     []

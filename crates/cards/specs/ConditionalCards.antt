@@ -5,7 +5,7 @@ use mathlib.Core.List.{List, [], _∷_, _++_}
 use mathlib.Core.Bool.{true, false}
 use Rattle.sids.specs.Sid.{ownerRights}
 use Rattle.access.specs.Status.{refused}
-use Rattle.cards.specs.Cards.{asks, given, Card, _⇒_, TU, TW, D}
+use Rattle.cards.specs.Cards.{asks, stepwise, given, Card, _⇒_, TU, TW, D}
 
 abbrev U : List ℕ
 U = 1 ∷ 2 ∷ 0 ∷ 0 ∷ 0 ∷ 0 ∷ 0 ∷ 5 ∷ 0 ∷ 0 ∷ 0 ∷ 0 ∷ 7 ∷ 0 ∷ 0 ∷ 0 ∷ []
@@ -70,7 +70,7 @@ conditional =
     (asks 1 0x20000 TW [] (holding (ownerListed (ofW 0x90))) [] ⇒ given 0 false false) ∷
     -- "A rule that does not apply neither narrows nor flags."
     (asks 1 0x80000000 TU [] D (ruling (ofW 0x89)) ⇒ given 0x120089 true false) ∷
-    (asks 1 0x80000000 TU [] D (ruling (ofU 0x89)) ⇒ given 0 false false) ∷
+    (asks 1 0x80000000 TU [] D (ruling (ofU 0x89)) ⇒ stepwise 0x120089 0x120089 0 0 false false) ∷
     (asks 1 0x80000000 TU [] D (ruling (ofU 0)) ⇒ refused 9) ∷
     (asks 1 0x80000000 TU [] D (ruling (ofU 0xa3)) ⇒ refused 10) ∷
     []

@@ -17,7 +17,7 @@ use Rattle.demands.specs.Accepted.{GrantsNothing}
 use Rattle.access.specs.QuestionFile.{questionOf, answering, fileAnswer}
 use Rattle.demands.specs.Conditions.{misshapen, fileMisshapen}
 use Rattle.access.specs.declared.answer.Answer.{Answer}
-use Rattle.demands.proofs.StatusLaws.{status-le, refused-grants-nothing}
+use Rattle.demands.proofs.StatusLaws.{status-le, grants-nothing, refused-grants-nothing}
 
 pub file-refused : (s : List ℕ) → fileMisshapen s ≡ true → fileAnswer s ≡ refused 12
 unfolding fileMisshapen fileAnswer
@@ -54,7 +54,7 @@ pub refused-file : (s : List ℕ) → (fileAnswer s .status ≡ 0 → ⊥) → G
 refused-file s n = go (fileMisshapen s) refl
   where
     go : (b : Bool) → fileMisshapen s ≡ b → GrantsNothing (fileAnswer s)
-    go true m = rw (file-refused s m) (record { granted = refl; allowed = refl; staged = refl })
+    go true m = rw (file-refused s m) (grants-nothing 12)
     go false m =
         let (q, e, p, a) = file-answered s m in
         rw a (refused-grants-nothing q (λ z. n (ap (λ (r : Answer). r .status) a ∙ z)))

@@ -17,5 +17,7 @@ pub mod OwnersRightsLaws
 pub mod ObjectListsLaws
 -- request 103
 pub mod SomeCallersLaws
+-- request 106
+pub mod FourMasksLaws
 -- what a reader of the page expects
 pub mod ReaderLaws

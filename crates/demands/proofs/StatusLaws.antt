@@ -1,6 +1,6 @@
 -- The status number is the lowest line of the table that holds. The index:
 -- status-is: the number given. accepted-when: 0 exactly where no line holds. status-le: a check gives no number above 10.
--- refused-nothing, refused-grants-nothing: a refusal has mask 0, allowed no, flag clear.
+-- refused-nothing, grants-nothing, refused-grants-nothing: a refusal has every mask 0, allowed no, flag clear.
 -- granted-cases, granted-asked: no granted bit lies outside the bits asked.
 -- Not here: the numbers of descriptor and policy, NumbersLaws; question files, FileLaws. Assumes nothing.
 use Prim.Native.Nat.{ℕ, _≤_}
@@ -187,8 +187,11 @@ refused-nothing q n = go (knownKind (q .kind)) (legal (q .kind) (q .mask)) n
     go true false n = refl
     go false y n = refl
 
+pub grants-nothing : (n : ℕ) → GrantsNothing (refused n)
+grants-nothing n = record { normal = refl; confined = refl; ruled = refl; granted = refl; allowed = refl; staged = refl }
+
 pub refused-grants-nothing : (q : Question) → (checked q .status ≡ 0 → ⊥) → GrantsNothing (checked q)
-refused-grants-nothing q n = rw (refused-nothing q n) (record { granted = refl; allowed = refl; staged = refl })
+refused-grants-nothing q n = rw (refused-nothing q n) (grants-nothing (checked q .status))
 
 -- ---- "no granted bit lies outside the bits asked"
 

@@ -13,8 +13,11 @@ use Rattle.access.specs.declared.answer.Answer.{Answer}
 abbrev pub Accepted : Question → Type 0
 Accepted q = checked q .status ≡ 0
 
--- "A refused check grants no right and sets no flag"
+-- "A refused check grants no right and sets no flag"; "A refusal zeroes all four" masks (request 106)
 pub record GrantsNothing (a : Answer) : Type 0 where
+  pub normal : a .normal .0 ≡ 0
+  pub confined : a .confined .0 ≡ 0
+  pub ruled : a .ruled .0 ≡ 0
   pub granted : a .granted .0 ≡ 0
   pub allowed : a .allowed ≡ false
   pub staged : a .staged ≡ false

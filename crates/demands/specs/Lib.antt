@@ -13,3 +13,5 @@ pub mod LongEntries
 pub mod OwnerEntries
 -- request 103's words: rules that apply to the asker, and conditions of entries
 pub mod SomeCallers
+-- request 106's words: the four masks, and the step that takes a bit
+pub mod FourMasks

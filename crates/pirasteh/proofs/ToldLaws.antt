@@ -1,18 +1,25 @@
--- An answer and a conversion, handed out part by part (specs: Told).
+-- An answer, its masks and a conversion, handed out part by part (specs: Told, Explained).
 -- Assumes nothing.
 use Prim.Native.Nat.{ℕ}
-use mathlib.Core.Path.{_≡_, ap}
+use mathlib.Core.Path.{_≡_, ap, _∙_}
 use mathlib.Core.List.{List}
 use lib.Seq.{sets}
 use Rattle.records.specs.Converters.{Conversion}
 use Rattle.tokens.specs.Answers.{answered}
 use Rattle.tokens.specs.declared.Converted.{Converted}
 use Rattle.access.specs.declared.answer.Answer.{Answer}
+use Rattle.masks.specs.KindsAndMasks.{asked}
 use Rattle.pirasteh.specs.Told.{Told, Handed}
+use Rattle.pirasteh.specs.Explained.{ifAnswered, Shown, Explained}
 
 -- of equal answers the same is told
 pub told-of : {x answer : Answer} {r g a s : ℕ} → x ≡ answer → Told x r g a s → Told answer r g a s
 told-of e t = rw e at t
+
+-- and of equal answers the same masks, with the bits asked for
+pub explained-of : {x answer : Answer} {kind mask m r b n c p g a s : ℕ} → x ≡ answer → Told x r g a s → Shown x n c p →
+    b ≡ ifAnswered (x .status) m → m ≡ asked kind mask → Explained answer kind mask r b n c p g a s
+explained-of e t w b m = record { told = told-of e t; shown = rw e at w; bits = b ∙ rw (e, m) }
 
 pub handed-made : (c : Conversion) (x : Converted) (before after : List ℕ) → x ≡ answered c → after ≡ sets before 0 (c .bytes) →
     Handed c before after (x .length) (x .status)

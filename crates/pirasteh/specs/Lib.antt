@@ -1,2 +1,4 @@
 -- What the exported functions hand out.
 pub mod Told
+-- the answer and its masks, for those who ask why
+pub mod Explained

@@ -5,8 +5,9 @@ ghost use mathlib.Core.Bool.{cond};
 ghost use lib.ListN.{length};
 ghost use Rattle.records.specs.Converters.{asListing, asRecord, fitted};
 ghost use Rattle.access.specs.Status.{checked};
-ghost use Rattle.access.specs.QuestionFile.{fileAnswer};
+ghost use Rattle.access.specs.QuestionFile.{fileAnswer, fileDesires};
 ghost use Rattle.pirasteh.specs.Told.{Told, Handed};
+ghost use Rattle.pirasteh.specs.Explained.{ifAnswered, Shown, Explained};
 use access::Answer;
 use lists::Rights;
 
@@ -69,6 +70,89 @@ pub extern "C" fn pirasteh_question(
         (now (granted .exit)) (now (allowed .exit)) (now (staged .exit)) ⌝ }
 {
     let a = access::question(file);
+    tell(a, granted, allowed, staged)
+}
+
+// The three masks of an answer that come before the granted one, in the lent numbers.
+fn show(a: Answer, normal: &mut u32, confined: &mut u32, ruled: &mut u32)
+    ensures { λ r. ⌜ Shown a (now (normal .exit)) (now (confined .exit)) (now (ruled .exit)) ⌝ }
+{
+    *normal = a.normal.0;
+    *confined = a.confined.0;
+    *ruled = a.ruled.0;
+}
+
+// A number where a question is answered, and 0 where it is refused.
+fn if_answered(status: u32, n: u32) -> u32
+    ensures { λ r. ⌜ r ≡ ifAnswered status n ⌝ }
+{
+    if status == 0 {
+        return n;
+    }
+    0
+}
+
+// The answer to a question with its masks: beside what `pirasteh_check` says, in the lent numbers
+// the bits asked for, and of these those after normal evaluation, after confinement and after
+// policy; all are 0 on refusal.
+#[no_mangle]
+pub extern "C" fn pirasteh_why(
+    kind: u32,
+    mask: u32,
+    token: &[u8],
+    me: &[u8],
+    descriptor: &[u8],
+    policy: &[u8],
+    asked: &mut u32,
+    normal: &mut u32,
+    confined: &mut u32,
+    ruled: &mut u32,
+    granted: &mut u32,
+    allowed: &mut u32,
+    staged: &mut u32,
+) -> u32
+    ensures { λ r. ⌜ Explained (checked (record {
+      kind = kind;
+      mask = mask;
+      token = now (token .entry);
+      self = now (me .entry);
+      descriptor = now (descriptor .entry);
+      policy = now (policy .entry);
+    })) kind mask r (now (asked .exit)) (now (normal .exit)) (now (confined .exit))
+        (now (ruled .exit)) (now (granted .exit)) (now (allowed .exit)) (now (staged .exit)) ⌝ }
+{
+    let desired = Rights(mask);
+    let a = access::check(kind, desired, token, me, descriptor, policy);
+    *asked = if_answered(a.status, masks::asked(kind, desired).0);
+    show(a, normal, confined, ruled);
+    tell(a, granted, allowed, staged)
+}
+
+// The answer to a question file with its masks, in the same way, and its kind.
+#[no_mangle]
+pub extern "C" fn pirasteh_why_question(
+    file: &[u8],
+    kind: &mut u32,
+    asked: &mut u32,
+    normal: &mut u32,
+    confined: &mut u32,
+    ruled: &mut u32,
+    granted: &mut u32,
+    allowed: &mut u32,
+    staged: &mut u32,
+) -> u32
+    ensures { λ r. ⌜ Explained (fileAnswer (now (file .entry)))
+        (fileDesires (now (file .entry)) .kind) (fileDesires (now (file .entry)) .mask .0)
+        r (now (asked .exit)) (now (normal .exit)) (now (confined .exit)) (now (ruled .exit))
+        (now (granted .exit)) (now (allowed .exit)) (now (staged .exit)) ⌝ }
+    ensures { λ r. ⌜ now (kind .exit) ≡ ifAnswered (fileAnswer (now (file .entry)) .status)
+        (fileDesires (now (file .entry)) .kind) ⌝ }
+{
+    let a = access::question(file);
+    let d = access::desired_in(file);
+    *kind = if_answered(a.status, d.kind);
+    *asked = if_answered(a.status, masks::asked(d.kind, d.mask).0);
+    show(a, normal, confined, ruled);
     tell(a, granted, allowed, staged)
 }
 

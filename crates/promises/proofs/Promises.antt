@@ -1,8 +1,9 @@
 -- What is promised, in the request's own words, and where it is proved: each proof here is one line that cites the work.
--- The words mean: `checked`, the answer to a question (access/specs/Status.antt); `fileAnswer`, that to a question file (QuestionFile.antt);
--- `byRules`, the rules of document 01 with no word on refusals; `conditions`, the table of status numbers line by line, and `lowest`;
--- `conversionInto`, what a converter comes to in a buffer of so many bytes; `SameButStrangers`, `SameButOneRule` (demands/specs: Accepted,
--- Conditions, Conversions, Strangers). The dummies that demand 2 shuts out: cards/proofs/Dummies.antt. Assumes nothing.
+-- The words mean: `checked`, the answer to a question, with its four masks since request 106 (access/specs/Status.antt); `fileAnswer`, that
+-- to a question file (QuestionFile.antt); `byRules`, the rules of document 01 with no word on refusals; `conditions`, the table of status
+-- numbers line by line, and `lowest`; `conversionInto`, what a converter comes to in a buffer of so many bytes; `SameButStrangers`,
+-- `SameButOneRule` (demands/specs: Accepted, Conditions, Conversions, Strangers). The dummies that demand 2 shuts out:
+-- cards/proofs/Dummies.antt. Assumes nothing.
 use Prim.Native.Nat.{ℕ}
 use mathlib.Core.Path.{_≡_}
 use mathlib.Core.List.{List}
@@ -32,23 +33,27 @@ use Rattle.demands.proofs.StrangersLaws as strangers
 use Rattle.demands.proofs.GainLaws as gain
 use Rattle.access.proofs.check as check
 use Rattle.access.proofs.question as question
+use Rattle.access.proofs.desired_in as desired-in
 use Rattle.tokens.proofs.to_listing as to-listing
 use Rattle.tokens.proofs.to_record as to-record
 use Rattle.pirasteh.proofs.pirasteh_check as c-check
 use Rattle.pirasteh.proofs.pirasteh_question as c-question
+use Rattle.pirasteh.proofs.pirasteh_why as c-why
+use Rattle.pirasteh.proofs.pirasteh_why_question as c-why-question
 use Rattle.pirasteh.proofs.pirasteh_list as c-list
 use Rattle.pirasteh.proofs.pirasteh_pack as c-pack
 
 -- ---- Demand 1. "Whatever bytes arrive, it ends and touches nothing outside them."
 -- Of the functions themselves: for all lent bytes each ends, is safe, and returns and leaves what its contract says, an equation with the
--- definitions below. Contracts: access/src, `check` and `question`; tokens/src, `to_listing` and `to_record`; pirasteh/src, for C and Rust.
-pub functions-met : {M : Type 1} → check.Statement.statement M × question.Statement.statement M × to-listing.Statement.statement M
-    × to-record.Statement.statement M
-functions-met = (check.Met.met, question.Met.met, to-listing.Met.met, to-record.Met.met)
+-- definitions below. Contracts: access/src, `check`, `question` and `desired_in` (the kind and the mask of a file's question, request 106);
+-- tokens/src, `to_listing` and `to_record`; pirasteh/src, for C and Rust.
+pub functions-met : {M : Type 1} → check.Statement.statement M × question.Statement.statement M × desired-in.Statement.statement M
+    × to-listing.Statement.statement M × to-record.Statement.statement M
+functions-met = (check.Met.met, question.Met.met, desired-in.Met.met, to-listing.Met.met, to-record.Met.met)
 
-pub exports-met : {M : Type 1} → c-check.Statement.statement M × c-question.Statement.statement M × c-list.Statement.statement M
-    × c-pack.Statement.statement M
-exports-met = (c-check.Met.met, c-question.Met.met, c-list.Met.met, c-pack.Met.met)
+pub exports-met : {M : Type 1} → c-check.Statement.statement M × c-question.Statement.statement M × c-why.Statement.statement M
+    × c-why-question.Statement.statement M × c-list.Statement.statement M × c-pack.Statement.statement M
+exports-met = (c-check.Met.met, c-question.Met.met, c-why.Met.met, c-why-question.Met.met, c-list.Met.met, c-pack.Met.met)
 
 -- "Bad input is refused by the number document 01 gives." Of a check, of a question file, of a converter: 3, 4 and 11 exactly when
 pub bad-input : (q : Question) → checked q .status ≡ lowest (conditions q)
@@ -60,7 +65,7 @@ bad-file = file.file-12
 pub bad-conversion : (room : ℕ) (way : Way) (s : List ℕ) → conversionInto room way s .status ≡ lowest (conversionConditions room way s)
 bad-conversion = converter.conversion-status
 
--- "A refused check grants no right and sets no flag; a refused conversion writes no byte."
+-- "A refused check grants no right and sets no flag; a refused conversion writes no byte." Request 106: "A refusal zeroes all four" masks
 pub refused-check : (q : Question) → (checked q .status ≡ 0 → ⊥) → GrantsNothing (checked q)
 refused-check = status.refused-grants-nothing
 
@@ -81,7 +86,8 @@ pub accepted-input : (q : Question) → Accepted q ↔ some-holds (conditions q)
 accepted-input = status.accepted-when
 
 -- "For it the granted mask, the allowed answer and the staging flag are those of the published descriptor, confinement and policy rules as
--- document 01 states them." Of a check, and of a question file; and of these: "no granted bit lies outside the bits asked"
+-- document 01 states them." Of a check, with the masks after each step (request 106), and of a question file; and of these: "no granted bit
+-- lies outside the bits asked"
 pub accepted-answer : (q : Question) → Accepted q → checked q ≡ byRules q (tokenIn q)
 accepted-answer = accepted.accepted-is
 
@@ -107,7 +113,8 @@ written = converter.written
 -- owner; alike in whether the access list is present; with as many policy rules, and staged lists in the same ones. If every list (the
 -- descriptor's, each rule's effective and staged one) reads the same once entries naming nobody of the token and no virtual identity are
 -- struck out, then all three answers are equal." Request 103: "Lists read the same only with equal condition bytes; demand 3 also needs
--- equal applies_to sections; an entry naming a stranger remains a stranger's with any condition."
+-- equal applies_to sections; an entry naming a stranger remains a stranger's with any condition." Request 106: "Demand 3's equality covers
+-- all of them", the four masks
 pub strangers-change-nothing : (p q : Question) → Accepted p → Accepted q → SameButStrangers p q → checked p ≡ checked q
 strangers-change-nothing = strangers.answer-strangers
 

@@ -10,14 +10,18 @@
 -- matches (passes/specs/Matching.antt); `chainsOf`, `shown` (passes/specs/Chains.antt); `outcome`, what an expression comes to for a
 -- membership test, `admits`, whether a condition is none or true (conditions/specs/Membership.antt), `shape`, `shapeOf`, its faults
 -- (conditions/specs/Condition.antt); `taken`, the tally after an entry (passes/specs/OnePass.antt); `Conditioned`, `conditionedBy`,
--- `applies` (demands/specs/SomeCallers.antt); `known`, `struck`, `SameButOneRule` (demands/specs/Strangers.antt). Assumes nothing.
+-- `applies` (demands/specs/SomeCallers.antt); `known`, `struck`, `SameButOneRule` (demands/specs/Strangers.antt); `asked`, the bits that a mask
+-- asks for (masks/specs/KindsAndMasks.antt); `bit`, the bit of a mask at a place (base/specs/Bits.antt); `Narrowing`, `FirstTwoStill`,
+-- `TakenOnce` (demands/specs/FourMasks.antt); `confines`, whether confinement applies to a token of these flags
+-- (passes/specs/Confinement.antt); `tokenIn`, the token of a question (demands/specs/Accepted.antt); `rulesOf`, the rules of a policy
+-- (policy/specs/Rules.antt). Assumes nothing.
 use Prim.Native.Nat.{ℕ, _+_, _*_, _<_, _≤_}
 use mathlib.Core.Path.{_≡_}
 use mathlib.Core.List.{List, [], _∷_, _++_}
 use mathlib.Core.Bool.{Bool, true, false}
 use mathlib.Core.Logic.{_↔_}
 use lib.ListN.{length, getD, take}
-use Rattle.base.specs.Bits.{and, Within}
+use Rattle.base.specs.Bits.{and, bit, Within}
 use Rattle.base.specs.Bytes.{byteAt, u16At}
 use Rattle.base.specs.Bytes.Read.{some}
 use Rattle.base.specs.Sevens.{number}
@@ -51,21 +55,25 @@ use Rattle.passes.specs.Chains.{shown, Tables, tables, chainsOf}
 use Rattle.passes.specs.Matching.{among, matches}
 use Rattle.passes.specs.OnePass.{taken}
 use Rattle.passes.specs.NormalEvaluation.{Dacl, namesOwner, listGives, normalOf}
+use Rattle.passes.specs.Confinement.{confines}
 use Rattle.passes.specs.declared.matching.Hits.{Hits}
 use Rattle.masks.specs.declared.tally.Tally.{Tally}
 use Rattle.passes.proofs.ChainedLaws as links
 use Rattle.passes.proofs.admits as admitting
+use Rattle.policy.specs.Rules.{rulesOf}
 use Rattle.access.specs.Status.{Question, checked}
-use Rattle.demands.specs.Accepted.{Accepted}
+use Rattle.demands.specs.Accepted.{Accepted, tokenIn}
 use Rattle.demands.specs.Strangers.{known, struck, SameButOneRule}
 use Rattle.demands.specs.LongEntries.{ReadTheSame}
 use Rattle.demands.specs.SomeCallers.{applies, Conditioned, conditionedBy}
+use Rattle.demands.specs.FourMasks.{Narrowing, FirstTwoStill, TakenOnce}
 use Rattle.demands.specs.OwnerEntries.{OwnerEntry, GoesBy, OwnerAsks, ownersRights, itsList, byObject}
 use Rattle.demands.proofs.LongEntriesLaws as long-entries
 use Rattle.demands.proofs.OwnerEntriesLaws as owner-entries
 use Rattle.demands.proofs.OwnersRightsLaws as owners-rights
 use Rattle.demands.proofs.ObjectListsLaws as object-lists
 use Rattle.demands.proofs.SomeCallersLaws as some-callers
+use Rattle.demands.proofs.FourMasksLaws as four-masks
 
 -- ---- #101 Older lists with long entries. "Accept a size of 8 plus the SID's length or more, still a multiple of 4."
 -- Of an entry in a DACL that holds a SID, of type 0, 1, 9 or 10: well shaped exactly then (its condition apart)
@@ -117,7 +125,7 @@ pub list-loses : (kind : ℕ) (ms : List Member) (h : Hits) (p : ℕ) (d : Dacl)
     Within (and (normalOf kind ms h p d) 0x60000) (listGives kind ms h d)
 list-loses = owners-rights.list-loses
 
--- "An inherit-only entry says nothing about the object itself": all three answers are those of the lists without such entries
+-- "An inherit-only entry says nothing about the object itself": the answer is that of the lists without such entries
 pub children-apart : (q : Question) → Accepted q → checked q ≡ byObject q
 children-apart = object-lists.answer-object
 
@@ -162,7 +170,7 @@ pub stranger-still : (t : Token) (e : Entry) (c : List ℕ) (es : List Entry) �
     struck t (conditionedBy c e ∷ es) ≡ struck t es
 stranger-still = some-callers.stranger-struck
 
--- "A rule that does not apply neither narrows nor flags": with it or without it all three answers are equal
+-- "A rule that does not apply neither narrows nor flags": with it or without it the answers are equal
 pub rule-apart : (p q : Question) → Accepted p → Accepted q → (s : SameButOneRule p q) → applies p (s .policy .gained) ≡ false →
     checked q ≡ checked p
 rule-apart = some-callers.rule-apart
@@ -181,6 +189,28 @@ one-byte = steps.number-alone
 -- one-byte number is read
 pub more-bytes : (bits : ℕ) (s : List ℕ) (at v n : ℕ) → 128 ≤ byteAt s at → number bits s at ≡ some v n → (128 ≤ v) × (at + 1 < n)
 more-bytes = longer.longer-found
+
+-- ---- #106 Where did my rights go. "four masks: after normal evaluation, after confinement, after policy, and granted, each limited to asked
+-- bits. Each lies within the one before; the last two are equal." Of every answer; what each mask is, `accepted-answer` of Promises.antt says
+pub masks-narrow : (q : Question) → Narrowing (asked (q .kind) (q .mask)) (checked q)
+masks-narrow = four-masks.masks-narrow
+
+-- "A refusal zeroes all four": `refused-check` and `refused-file` there. "Demand 3's equality covers all of them": `strangers-change-nothing`
+-- there is an equation of whole answers. "a gained rule leaves the first two as they were":
+pub first-two-still : (p q : Question) → Accepted p → Accepted q → SameButOneRule p q → FirstTwoStill (checked p) (checked q)
+first-two-still = four-masks.first-two-still
+
+-- So it can be said of every bit that is asked and not granted where it was lost: of an accepted question one step takes it, and no other
+pub taken-once : (q : Question) → Accepted q → (i : ℕ) → bit (asked (q .kind) (q .mask)) i ≡ true → bit (checked q .granted .0) i ≡ false →
+    TakenOnce (asked (q .kind) (q .mask)) (checked q) i
+taken-once = four-masks.taken-once
+
+-- Confinement takes nothing from a token that is not confined, or exempt; a policy without rules takes nothing
+pub unconfined-keeps : (q : Question) → Accepted q → confines (tokenIn q .flags) ≡ false → checked q .confined ≡ checked q .normal
+unconfined-keeps = four-masks.unconfined-keeps
+
+pub no-rule-keeps : (q : Question) → Accepted q → rulesOf (q .policy) ≡ [] → checked q .ruled ≡ checked q .confined
+no-rule-keeps = four-masks.no-rule-keeps
 
 -- ---- Speed. No answer changes; what the quicker ways lean on
 -- The chains of a crowd, in tables whose heads were clear and whose seats are more than the crowd, show exactly that crowd: a SID matches one

@@ -27,7 +27,7 @@ fn verdict(agrees: bool) -> u8
     DIFFERS
 }
 
-// A question in digits, and what it is answered: `line = `.
+// A question in digits, and what it is answered: `line = `, and `masks = ` where it is not refused.
 fn question(hex: &[u8], rest: &[u8]) -> u8 {
     let a = after(rest, 0, b"line = ");
     if rest.len() < a {

@@ -1,6 +1,7 @@
-//! Asks one question, document 01's card c1: may the user S-1-5-0-7 read this file?
+//! Asks document 01's card c1, may the user S-1-5-0-7 read this file, and then what keeps them from
+//! deleting it.
 
-use pirasteh::{check, mask, Descriptor, Kind, Policy, Question, SelfId, Token};
+use pirasteh::{check, mask, why, Descriptor, Kind, Policy, Question, SelfId, Token};
 use std::process::ExitCode;
 
 /// The user S-1-5-0-7, without groups.
@@ -16,7 +17,7 @@ const DESCRIPTOR: [u8; 64] = [
 ];
 
 fn main() -> ExitCode {
-    let question = Question {
+    let read = Question {
         kind: Kind::File,
         mask: mask::GENERIC_READ,
         token: Token(&TOKEN),
@@ -24,20 +25,30 @@ fn main() -> ExitCode {
         descriptor: Descriptor(&DESCRIPTOR),
         policy: Policy::NONE,
     };
-    match check(&question) {
+    let allowed = match check(&read) {
         // Answered: yes or no.
         Ok(answer) => {
             println!("{answer}");
-            if answer.allowed {
-                ExitCode::SUCCESS
-            } else {
-                ExitCode::FAILURE
-            }
+            answer.allowed
         }
         // Refused: some part is not what it should be.
         Err(error) => {
             println!("{error}");
-            ExitCode::FAILURE
+            false
         }
+    };
+    explain(&Question { mask: mask::DELETE, ..read });
+    if allowed {
+        ExitCode::SUCCESS
+    } else {
+        ExitCode::FAILURE
+    }
+}
+
+/// Prints each right that is asked for and not granted, with the step of the check that took it.
+fn explain(question: &Question<'_>) {
+    match why(question) {
+        Ok(why) => why.lost().for_each(|lost| println!("{lost}")),
+        Err(error) => println!("{error}"),
     }
 }

@@ -6,7 +6,7 @@ use crate::hard::{self, Shared};
 use crate::inputs::Input;
 use crate::named::Named;
 use crate::sheet::{self, Sheet};
-use crate::timing::{keep, timed};
+use crate::timing::{keep, timed, Timed};
 use std::hint::black_box;
 
 pub fn table(sheet: &mut Sheet) {
@@ -96,12 +96,17 @@ fn row(sheet: &mut Sheet, input: &Input, calls: usize) {
         &mut || masks.iter().for_each(|&mask| keep(by_plain(black_box(input), mask))),
         &mut || masks.iter().for_each(|_| keep(scan(black_box(input)))),
     ]);
+    put(sheet, input, calls, times);
+}
+
+/// Prints the row of an input.
+pub fn put(sheet: &mut Sheet, input: &Input, calls: usize, times: [Timed; 3]) {
     let [entries, identities, rules, count] =
         [input.entries, input.identities, input.rules, calls].map(|n| n.to_string());
     let front = front([&entries, &identities, &input.third, &rules, &count]);
     sheet.row(&front, &input.name(calls), times);
 }
 
-fn scan(input: &Input) -> u64 {
+pub fn scan(input: &Input) -> u64 {
     floor::scan(&input.token, &input.descriptor, &input.policy)
 }

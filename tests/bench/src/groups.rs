@@ -1,7 +1,7 @@
 //! The groups of rows, and which of them are asked for.
 
 use crate::sheet::Sheet;
-use crate::{checks, conditions, conversions};
+use crate::{checks, conditions, conversions, why};
 
 pub struct Group {
     pub name: &'static str,
@@ -10,7 +10,7 @@ pub struct Group {
     pub rows: fn(&mut Sheet),
 }
 
-pub const GROUPS: [Group; 9] = [
+pub const GROUPS: [Group; 10] = [
     Group {
         name: "table",
         about: "no entry names the asker, or the first one does and allows everything",
@@ -54,6 +54,14 @@ pub const GROUPS: [Group; 9] = [
         about: "callback entries of strangers and of the asker; and one condition of thousands of \
                 strangers, in an entry for the asker or as an applies_to, whole and half as long",
         rows: conditions::rows,
+    },
+    Group {
+        name: "why",
+        about:
+            "pirasteh_why, with the masks of all steps; the last entries name the asker and, if it \
+                is confined and there are more than one, the package, and allow everything, or no entry \
+                names either",
+        rows: why::rows,
     },
     Group {
         name: "conversions",

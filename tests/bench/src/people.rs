@@ -41,7 +41,16 @@ impl People {
 
     /// The record of the user with the others as enabled groups.
     pub fn record(&self) -> Vec<u8> {
+        self.token().record()
+    }
+
+    /// The same, confined to a package.
+    pub fn confined_record(&self, package: &[u8]) -> Vec<u8> {
+        self.token().confined(package, &[&sid(15, &[2, 2])]).record()
+    }
+
+    fn token(&self) -> Token {
         let user = Token::of(self.user());
-        self.identities[1..].iter().fold(user, |token, group| token.group(group, 0x7)).record()
+        self.identities[1..].iter().fold(user, |token, group| token.group(group, 0x7))
     }
 }

@@ -24,6 +24,32 @@ pub struct Answer {
     pub staged: bool,
 }
 
+/// An answer with the bits asked and what each step leaves of them.
+#[derive(Clone, Copy, Debug, PartialEq, Eq)]
+pub struct Why {
+    pub asked: u32,
+    pub normal: u32,
+    pub confined: u32,
+    pub ruled: u32,
+    pub granted: u32,
+    pub allowed: bool,
+    pub staged: bool,
+}
+
+impl From<pirasteh_reference::Answer> for Why {
+    fn from(answer: pirasteh_reference::Answer) -> Why {
+        Why {
+            asked: answer.asked,
+            normal: answer.normal,
+            confined: answer.confined,
+            ruled: answer.ruled,
+            granted: answer.granted,
+            allowed: answer.allowed,
+            staged: answer.staged,
+        }
+    }
+}
+
 const OWNER_RIGHTS: [u8; 12] = [1, 1, 0, 0, 0, 0, 0, 3, 4, 0, 0, 0];
 const PRINCIPAL_SELF: [u8; 12] = [1, 1, 0, 0, 0, 0, 0, 5, 10, 0, 0, 0];
 const ALL_RESTRICTED: [u8; 16] = [1, 2, 0, 0, 0, 0, 0, 15, 2, 0, 0, 0, 2, 0, 0, 0];
@@ -80,6 +106,33 @@ pub fn check(
     descriptor: &[u8],
     policy: &[u8],
 ) -> Result<Answer, u32> {
+    let Why { granted, allowed, staged, .. } =
+        answered(kind, mask, token, self_id, descriptor, policy)?;
+    Ok(Answer { granted, allowed, staged })
+}
+
+/// The same with all masks.
+pub fn why(
+    kind: u32,
+    mask: u32,
+    token: &[u8],
+    self_id: &[u8],
+    descriptor: &[u8],
+    policy: &[u8],
+) -> Result<Why, u32> {
+    answered(kind, mask, token, self_id, descriptor, policy)
+}
+
+/// Inlined into both, so that neither pays for what it does not tell.
+#[inline(always)]
+fn answered(
+    kind: u32,
+    mask: u32,
+    token: &[u8],
+    self_id: &[u8],
+    descriptor: &[u8],
+    policy: &[u8],
+) -> Result<Why, u32> {
     if kind != 1 && kind != 2 {
         return Err(1);
     }
@@ -153,7 +206,7 @@ pub fn check(
     let confined = (decoded.flags == 1).then(|| Party::new(confined, confined, owner_sid, self_id));
     let setting = Setting { rights, asked, normal, confined, owner_rights, privileges };
 
-    let mut granted = if d[2] & 0x04 != 0 {
+    let (normal, left) = if d[2] & 0x04 != 0 {
         let (_, walked) =
             part(u32_at(d, 16)).and_then(|list| dacl(&setting, asked, true, list)).ok_or(6u32)?;
         if owner.is_none() {
@@ -162,19 +215,21 @@ pub fn check(
         if walked.unread {
             return Err(8);
         }
-        let confined = if setting.confined.is_some() { walked.confined } else { u32::MAX };
-        evaluated(&setting, &walked) & confined
+        let left = if setting.confined.is_some() { walked.confined } else { u32::MAX };
+        (evaluated(&setting, &walked) & asked, left)
     } else {
         if owner.is_none() {
             return Err(7);
         }
-        let confined = if setting.confined.is_some() { all } else { u32::MAX };
-        (all | setting.privileges) & confined
-    } & asked;
+        let left = if setting.confined.is_some() { all } else { u32::MAX };
+        ((all | setting.privileges) & asked, left)
+    };
 
+    let confined = normal & left;
+    let mut granted = confined;
     let staged = rules(&setting, policy, &mut granted)?;
     let allowed = explicit & !granted == 0 && (mask & MAXIMUM == 0 || granted != 0);
-    Ok(Answer { granted, allowed, staged })
+    Ok(Why { asked, normal, confined, ruled: granted, granted, allowed, staged })
 }
 
 /// Judges an applies_to. Gives whether its rule applies.
@@ -265,6 +320,7 @@ fn rules(setting: &Setting, policy: &[u8], granted: &mut u32) -> Result<bool, u3
 mod tests {
     use super::token::{LISTING_MAX, RECORD_MAX};
     use super::*;
+    use pirasteh_cases::make::Question;
     use pirasteh_cases::random::{case, Case};
     use pirasteh_reference as reference;
 
@@ -273,19 +329,15 @@ mod tests {
         for number in 0..200_000 {
             match case(7, number) {
                 Case::Check(q) => {
-                    let said =
-                        check(q.kind, q.mask, &q.token, &q.self_id, &q.descriptor, &q.policy)
-                            .map(|a| (a.granted, a.allowed, a.staged));
-                    let expected = reference::check(
-                        q.kind,
-                        q.mask,
-                        &q.token,
-                        &q.self_id,
-                        &q.descriptor,
-                        &q.policy,
-                    )
-                    .map(|a| (a.granted, a.allowed, a.staged));
-                    assert_eq!(said, expected, "case {number} of seed 7");
+                    let Question { kind, mask, token, self_id, descriptor, policy } = &q;
+                    let expected =
+                        reference::check(*kind, *mask, token, self_id, descriptor, policy);
+                    let said = check(*kind, *mask, token, self_id, descriptor, policy);
+                    let said = said.map(|a| (a.granted, a.allowed, a.staged));
+                    let short = expected.map(|a| (a.granted, a.allowed, a.staged));
+                    assert_eq!(said, short, "case {number} of seed 7");
+                    let said = why(*kind, *mask, token, self_id, descriptor, policy);
+                    assert_eq!(said, expected.map(Why::from), "case {number} of seed 7, masks");
                 }
                 Case::File(_) => {}
                 Case::List(record, _) => {

@@ -6,7 +6,7 @@ use crate::lists::{self, end_of_sid, entries, List};
 use crate::who::{OWNER_RIGHTS, PRINCIPAL_SELF};
 use pirasteh_cases::make::{self, Question};
 use pirasteh_cases::{conditions, expressions, Rng};
-use pirasteh_reference::{self as reference, Answer};
+use pirasteh_reference::{self as reference, Answer, Verdict};
 
 /// What the entries for S-1-3-4 of one list can be. Each has to be reached, in each kind of list.
 pub const ROWS: [&str; 14] = [
@@ -58,12 +58,18 @@ pub fn owner_of(q: &Question) -> Option<&[u8]> {
     q.descriptor.get(at..at + 8 + 4 * words)
 }
 
-pub fn ask(q: &Question) -> Result<Answer, u32> {
+/// What the reference answers, with all masks.
+pub fn answer(q: &Question) -> Result<Answer, u32> {
     reference::check(q.kind, q.mask, &q.token, &q.self_id, &q.descriptor, &q.policy)
 }
 
+/// The same without the way there. Whether an answer hangs on something is judged by this alone.
+pub fn ask(q: &Question) -> Result<Verdict, u32> {
+    answer(q).map(|answer| answer.verdict())
+}
+
 /// Adds the lists of an accepted question to a table.
-pub fn add(q: &Question, answer: Answer, table: &mut Table) {
+pub fn add(q: &Question, answer: Verdict, table: &mut Table) {
     // Of very many rules the first will do.
     for list in lists::of(q).iter().take(9) {
         let rows = rows(&owners_entries(list));
@@ -105,7 +111,7 @@ fn rows(named: &[&[u8]]) -> [bool; 14] {
 
 /// Whether the answer is another than by the opposite rule: one by which the list's inherit-only
 /// entries for S-1-3-4 count, or, where some do count, one by which they do not.
-pub fn matters(q: &Question, list: &List, answer: Answer) -> bool {
+pub fn matters(q: &Question, list: &List, answer: Verdict) -> bool {
     let Some(owner) = owner_of(q).filter(|&sid| sid != OWNER_RIGHTS && sid != PRINCIPAL_SELF)
     else {
         return false;
@@ -196,13 +202,13 @@ mod tests {
         let mut twins = [0; 3];
         for number in 0..40_000 {
             let Case::Check(q) = case(3, number) else { continue };
-            let answer = ask(&q);
-            if answer.is_err() {
+            let before = answer(&q);
+            if before.is_err() {
                 continue;
             }
             if let Some((twin, way)) = twin(&q, &mut Rng::new(4, number)) {
                 twins[way as usize] += 1;
-                assert_eq!(ask(&twin), answer, "case {number} of seed 3");
+                assert_eq!(answer(&twin), before, "case {number} of seed 3");
             }
         }
         assert!(twins.iter().all(|&times| times > 1_000), "only {twins:?}");

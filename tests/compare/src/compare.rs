@@ -6,17 +6,19 @@ use crate::conditions;
 use crate::crowds::{self, seats};
 use crate::decided;
 use crate::fence;
+use crate::gained;
 use crate::library::{Library, Said};
 use crate::numbers::{self, words};
 use crate::rooms;
 use crate::spare;
+use crate::steps;
 use pirasteh_cases::hex;
 use pirasteh_cases::make::Question;
 use pirasteh_cases::numbers::Place;
 use pirasteh_cases::random::{self, About, Case};
 use pirasteh_cases::rooms::Door;
 use pirasteh_cases::Rng;
-use pirasteh_reference as reference;
+use pirasteh_reference::{self as reference, Verdict};
 use std::fmt::Debug;
 use std::sync::atomic::Ordering;
 
@@ -36,9 +38,9 @@ const STATUS: [&str; 13] = [
     "question file",
 ];
 
-/// What has to be reached besides, and all of `children::ROWS` and of the tables of `numbers`,
-/// `rooms`, `crowds`, `decided`, `seats`, `words` and `conditions`.
-const REACHED: [&str; 13] = [
+/// What has to be reached besides, and all of `children::ROWS`, of `gained::ROWS` and of the tables
+/// of `steps`, `numbers`, `rooms`, `crowds`, `decided`, `seats`, `words` and `conditions`.
+const REACHED: [&str; 14] = [
     "accepted, with spare bytes in an entry of the descriptor's DACL",
     "accepted, with spare bytes in an entry of an effective DACL",
     "accepted, with spare bytes in an entry of a staged DACL",
@@ -52,15 +54,20 @@ const REACHED: [&str; 13] = [
     "asked once more, with other conditions in strangers' entries",
     "asked once more, with strangers' callback entries put in",
     "asked once more, with strangers' callback entries taken out",
+    "asked once more, as a question file",
 ];
 const SPARE_TWIN: usize = 6;
 /// The first of `children::Way`.
 const CHILDREN_TWIN: usize = 7;
 /// The first of the ways of `conditions::twin`.
 const CONDITIONS_TWIN: usize = 10;
+const FILE_TWIN: usize = 13;
 
-/// The aims of `rooms`, `crowds`, `decided`, `seats`, `words` and `conditions` are many: a run of
-/// fewer cases is not held to them.
+/// A longer question file is refused.
+const LONGEST_FILE: usize = 65_536;
+
+/// The aims of `rooms`, `crowds`, `decided`, `seats`, `words` and `conditions` are many, and some of
+/// `steps` are rare: a run of fewer cases is not held to them.
 const ENOUGH_FOR_AIMS: u64 = 500_000;
 
 /// After this many differences the rest is not looked at.
@@ -69,8 +76,10 @@ const ENOUGH: u32 = 5;
 #[derive(Default)]
 struct Tally {
     status: [u64; 13],
-    reached: [u64; 13],
+    reached: [u64; 14],
     children: children::Table,
+    gained: gained::Table,
+    steps: steps::Table,
     numbers: numbers::Table,
     rooms: rooms::Table,
     crowds: crowds::Table,
@@ -117,8 +126,8 @@ pub fn many(seed: u64, count: u64) -> bool {
         unreached.extend(tally.aims_unreached());
     } else {
         println!(
-            "not held to rooms, crowds, decided lists, seats, words of five bytes and conditions: \
-             that takes {ENOUGH_FOR_AIMS} cases"
+            "not held to steps, rooms, crowds, decided lists, seats, words of five bytes and \
+             conditions: that takes {ENOUGH_FOR_AIMS} cases"
         );
     }
     for what in &unreached {
@@ -153,11 +162,13 @@ fn compare(
             let expected =
                 reference::check(q.kind, q.mask, &q.token, &q.self_id, &q.descriptor, &q.policy);
             tally.checks += 1;
-            tally.answer(&expected);
-            tally.reach(q, &expected);
+            let verdict = expected.map(|answer| answer.verdict());
+            tally.answer(&verdict);
+            tally.reach(q, &verdict);
+            tally.steps.add(steps::Door::Parts, q.kind, q.mask, &expected);
             tally.numbers.record(Place::Token, &q.token, expected.err());
             tally.rooms.record(&q.token, Door::Check, expected.err());
-            tally.aimed(number, q, &expected);
+            tally.aimed(number, q, &verdict);
             same(expected, library.check(q, dice))?;
             match expected {
                 Ok(answer) => once_more(library, q, answer, rng, tally),
@@ -165,9 +176,10 @@ fn compare(
             }
         }
         Case::File(file) => {
-            let expected = reference::question(file);
+            let expected = reference::question_and_kind(file);
             tally.files += 1;
-            tally.answer(&expected);
+            tally.answer(&expected.map(|(answer, _)| answer.verdict()));
+            tally.steps.add_file(file, &expected);
             tally.numbers.file(file, expected.err());
             tally.rooms.file(file, expected.err());
             same(expected, library.question(file, dice))
@@ -208,7 +220,8 @@ fn compare(
 }
 
 /// Now and then an accepted question is asked once more, with other spare bytes in its entries, with
-/// other inherit-only entries, or with other conditions in strangers' entries.
+/// other inherit-only entries, with other conditions in strangers' entries, with one rule more, or as
+/// a question file.
 fn once_more(
     library: &mut Library,
     q: &Question,
@@ -234,10 +247,25 @@ fn once_more(
             still(library, &twin, before, rng, "other conditions in strangers' entries")?;
         }
     }
+    if rng.one_in(4) {
+        if let Some((twin, row)) = gained::twin(q, rng) {
+            tally.gained[row] += 1;
+            gains(library, &twin, before, rng, tally)?;
+        }
+    }
+    if rng.one_in(4) {
+        let file = q.file();
+        if file.len() <= LONGEST_FILE {
+            let expected = Ok((before, q.kind));
+            tally.reached[FILE_TWIN] += 1;
+            tally.steps.add_file(&file, &expected);
+            same(expected, library.question(&file, rng.u64()))?;
+        }
+    }
     Ok(())
 }
 
-/// The library says of a twin what it said before. This takes no second opinion.
+/// The library says of a twin what it said before, all masks included. This takes no second opinion.
 fn still(
     library: &mut Library,
     twin: &Question,
@@ -249,11 +277,36 @@ fn still(
     if said == Ok(before) {
         return Ok(());
     }
-    Err(format!(
-        "library {before:?}, and {said:?} with {with}:\n  descriptor = {}\n  policy = {}",
-        hex::encode(&twin.descriptor),
-        hex::encode(&twin.policy),
-    ))
+    Err(format!("library {before:?}, and {said:?} with {with}:{}", lists_of(twin)))
+}
+
+/// The library says of a twin with one rule more what a rule may do. Nor does this take another
+/// opinion.
+fn gains(
+    library: &mut Library,
+    twin: &Question,
+    before: reference::Answer,
+    rng: &mut Rng,
+    tally: &mut Tally,
+) -> Result<(), String> {
+    let said = library.check(twin, rng.u64())?;
+    let did = said
+        .map_err(|_| "it is refused now")
+        .and_then(|after| gained::compared(before, after))
+        .map_err(|what| {
+            let with = format!("with one rule more, and {what}");
+            format!("library {before:?}, and {said:?} {with}:{}", lists_of(twin))
+        })?;
+    for (times, here) in tally.gained[gained::DID..].iter_mut().zip(did) {
+        *times += u64::from(here);
+    }
+    Ok(())
+}
+
+/// The parts of a twin that are its own.
+fn lists_of(twin: &Question) -> String {
+    let (descriptor, policy) = (hex::encode(&twin.descriptor), hex::encode(&twin.policy));
+    format!("\n  descriptor = {descriptor}\n  policy = {policy}")
 }
 
 fn lent(result: Result<Vec<u8>, u32>, room: usize) -> Result<Vec<u8>, u32> {
@@ -308,7 +361,7 @@ impl Tally {
         self.status[refusal.map_or(0, |&number| number as usize)] += 1;
     }
 
-    fn answer(&mut self, expected: &Result<reference::Answer, u32>) {
+    fn answer(&mut self, expected: &Result<Verdict, u32>) {
         self.status(expected.as_ref().err());
         if let Ok(answer) = expected {
             self.allowed += u64::from(answer.allowed);
@@ -317,7 +370,7 @@ impl Tally {
         }
     }
 
-    fn reach(&mut self, q: &Question, expected: &Result<reference::Answer, u32>) {
+    fn reach(&mut self, q: &Question, expected: &Result<Verdict, u32>) {
         match *expected {
             Ok(answer) => {
                 children::add(q, answer, &mut self.children);
@@ -334,7 +387,7 @@ impl Tally {
     }
 
     /// Adds a question to the table of what it is about.
-    fn aimed(&mut self, number: u64, q: &Question, expected: &Result<reference::Answer, u32>) {
+    fn aimed(&mut self, number: u64, q: &Question, expected: &Result<Verdict, u32>) {
         match (random::about(number), *expected) {
             (Some(About::Crowds(turn)), Ok(answer)) => self.crowds.add(turn, q, answer),
             (Some(About::Decided(turn)), Ok(answer)) => {
@@ -357,13 +410,17 @@ impl Tally {
                 all.push(format!("decided by entries for S-1-3-4 in {list}: {row}"));
             }
         }
+        for (_, name) in self.gained.iter().zip(gained::ROWS).filter(|(&times, _)| times == 0) {
+            all.push(format!("asked once more, with a rule gained, {name}"));
+        }
         all.extend(self.numbers.unreached());
         all
     }
 
     /// The same of the cases that have an aim.
     fn aims_unreached(&self) -> Vec<String> {
-        let mut all = self.rooms.unreached();
+        let mut all = self.steps.unreached();
+        all.extend(self.rooms.unreached());
         all.extend(self.crowds.unreached());
         all.extend(decided::unreached(&self.decided));
         all.extend(self.seats.unreached());
@@ -392,6 +449,11 @@ impl Tally {
         for ([descriptor, effective, staged], name) in self.children.iter().zip(children::ROWS) {
             println!("  {descriptor:9} {effective:9} {staged:9}  {name}");
         }
+        println!("  asked once more, with a rule gained:");
+        for (times, name) in self.gained.iter().zip(gained::ROWS) {
+            println!("  {times:9}  {name}");
+        }
+        self.steps.print();
         self.numbers.print();
         self.rooms.print();
         self.crowds.print();

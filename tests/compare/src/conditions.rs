@@ -17,7 +17,7 @@ use pirasteh_cases::conditions::faults::{Spot, SPOTS};
 use pirasteh_cases::conditions::truths::Row;
 use pirasteh_cases::conditions::{aim, aims, long, Aim, Pass, Place};
 use pirasteh_cases::make::Question;
-use pirasteh_reference::Answer;
+use pirasteh_reference::Verdict;
 
 /// How often each was reached.
 pub struct Table {
@@ -36,7 +36,7 @@ impl Default for Table {
 
 impl Table {
     /// Adds the question of one turn.
-    pub fn add(&mut self, turn: u64, q: &Question, expected: &Result<Answer, u32>) {
+    pub fn add(&mut self, turn: u64, q: &Question, expected: &Result<Verdict, u32>) {
         let aim = aim(turn);
         if self.is(aim, q, expected) {
             let place = (turn % self.aims.len() as u64) as usize;
@@ -44,7 +44,7 @@ impl Table {
         }
     }
 
-    fn is(&mut self, aim: Aim, q: &Question, expected: &Result<Answer, u32>) -> bool {
+    fn is(&mut self, aim: Aim, q: &Question, expected: &Result<Verdict, u32>) -> bool {
         match (aim, *expected) {
             (Aim::Truth(row, place), Ok(answer)) => truths::is_row(row, place, q, answer),
             (Aim::Fault(shape, spot), Err(number)) => {
@@ -123,7 +123,7 @@ fn can_be_idle(name: &str, spot: Spot) -> bool {
 }
 
 /// Whether a condition has the length of the row, and the answer hangs on it, or on that length.
-fn is_long(row: long::Row, q: &Question, expected: &Result<Answer, u32>) -> bool {
+fn is_long(row: long::Row, q: &Question, expected: &Result<Verdict, u32>) -> bool {
     let all = spots::of(q);
     match (row, *expected) {
         (long::Row::AppliesTo(length), _) if length > long::LONGEST => {
@@ -146,7 +146,7 @@ fn is_long(row: long::Row, q: &Question, expected: &Result<Answer, u32>) -> bool
     }
 }
 
-fn hangs_somehow(pass: Pass, q: &Question, spot: &spots::Spot, answer: Answer) -> bool {
+fn hangs_somehow(pass: Pass, q: &Question, spot: &spots::Spot, answer: Verdict) -> bool {
     let mut places = [false, true].into_iter().map(|second| Place { pass, second });
     places.any(|place| truths::hangs(place, q, spot, answer).is_some())
 }

@@ -10,7 +10,7 @@ use crate::lists::{self, entries, Whose};
 use crate::who::{One, Who, OWNER_RIGHTS, PRINCIPAL_SELF};
 use pirasteh_cases::crowds::{aim, aims, repeats, Aim, Kin};
 use pirasteh_cases::make::Question;
-use pirasteh_reference::Answer;
+use pirasteh_reference::Verdict;
 
 /// Whom an entry names.
 const WHOM: [&str; 8] = [
@@ -162,7 +162,7 @@ fn named(q: &Question) -> Option<Named> {
 
 impl Table {
     /// Adds the accepted question of one turn.
-    pub fn add(&mut self, turn: u64, q: &Question, answer: Answer) {
+    pub fn add(&mut self, turn: u64, q: &Question, answer: Verdict) {
         let aim = aim(turn);
         let at = (turn % AIMS as u64) as usize;
         let Some(who) = Who::of(q) else { return };

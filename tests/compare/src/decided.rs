@@ -6,7 +6,7 @@ use crate::lists::{self, entries, List};
 use crate::who::{One, Who, OWNER_RIGHTS, PRINCIPAL_SELF};
 use pirasteh_cases::decided::{aim, Row, ROWS};
 use pirasteh_cases::make::{self, Question};
-use pirasteh_reference::Answer;
+use pirasteh_reference::Verdict;
 
 /// What the rows are called.
 const NAMES: [&str; ROWS.len()] = [
@@ -85,7 +85,7 @@ fn matches(q: &Question, crowd: &[One], entry: &[u8]) -> bool {
 }
 
 /// Adds the accepted question of one turn.
-pub fn add(turn: u64, q: &Question, answer: Answer, table: &mut Table) {
+pub fn add(turn: u64, q: &Question, answer: Verdict, table: &mut Table) {
     let aim = aim(turn);
     // Of several lists of one kind it is the last.
     let lists = lists::of(q);
@@ -108,7 +108,7 @@ fn speak(entries: &[&[u8]]) -> bool {
 }
 
 /// Whether the answer is another with these entries in the list.
-fn differs(q: &Question, list: &List, new: &[Vec<u8>], answer: Answer) -> bool {
+fn differs(q: &Question, list: &List, new: &[Vec<u8>], answer: Verdict) -> bool {
     let other = lists::rewritten(q, |one| {
         let here = one.whose == list.whose && one.at == list.at;
         lists::with_entries(one.bytes, new).filter(|_| here)
@@ -121,7 +121,7 @@ fn owned(entries: &[&[u8]]) -> Vec<Vec<u8>> {
 }
 
 /// Whether a list is what the row says, and matters.
-fn is_row(row: Row, q: &Question, list: &List, walk: &Walk, answer: Answer) -> bool {
+fn is_row(row: Row, q: &Question, list: &List, walk: &Walk, answer: Verdict) -> bool {
     let Some((behind, deciding)) = walk.behind(0) else {
         return but_one(row, q, list, walk, answer);
     };
@@ -155,7 +155,7 @@ fn is_row(row: Row, q: &Question, list: &List, walk: &Walk, answer: Answer) -> b
 }
 
 /// The same for the rows where one bit is not decided at first.
-fn but_one(row: Row, q: &Question, list: &List, walk: &Walk, answer: Answer) -> bool {
+fn but_one(row: Row, q: &Question, list: &List, walk: &Walk, answer: Verdict) -> bool {
     let Some((behind, _)) = walk.behind(1) else { return false };
     let (early, tail) = walk.entries.split_at(behind);
     if walk.left[behind - 1] == 0 {

@@ -3,7 +3,8 @@
 use crate::fence::{Fence, Spot};
 use pirasteh::{raw, Descriptor, Kind, Listing, Policy, SelfId, Token};
 use pirasteh_cases::make::Question;
-use pirasteh_reference::Answer;
+use pirasteh_reference::{Answer, Verdict};
+use std::array::from_fn;
 
 /// What a call gave back. `Err` is a refusal; a call that broke a promise about memory is told
 /// in words.
@@ -20,35 +21,75 @@ const ROOM: usize = 655_360;
 const STALE: u32 = 0xA5A5_A5A5;
 const STALE_LENGTH: usize = 0xA5A5_A5A5;
 
-/// The three result words, with a guard word on each side of each.
-struct Words([u32; 7]);
+/// Up to eight result words, with a guard word on each side of each.
+struct Words([u32; 17]);
 
 impl Words {
     fn new() -> Words {
-        Words([STALE; 7])
+        Words([STALE; 17])
     }
 
-    fn pointers(&mut self) -> (*mut u32, *mut u32, *mut u32) {
+    /// Where the first so many are.
+    fn pointers<const N: usize>(&mut self) -> [*mut u32; N] {
+        assert!(N <= 8);
         let first = self.0.as_mut_ptr();
         // SAFETY: inside the array.
-        unsafe { (first.add(1), first.add(3), first.add(5)) }
+        from_fn(|i| unsafe { first.add(2 * i + 1) })
     }
 
-    fn said(&self, status: u32) -> Said<Answer> {
-        let [g0, granted, g1, allowed, g2, staged, g3] = self.0;
-        if [g0, g1, g2, g3] != [STALE; 4] {
+    /// What they hold after a call. A refusal has to have zeroed them all.
+    fn said<const N: usize>(&self, status: u32) -> Said<[u32; N]> {
+        let words: [u32; N] = from_fn(|i| self.0[2 * i + 1]);
+        let is_guard = |at: usize| at % 2 == 0 || at > 2 * N;
+        if (0..17).any(|at| is_guard(at) && self.0[at] != STALE) {
             return Err("a word beside the result words was written".into());
         }
-        if status != 0 {
-            return match (granted, allowed, staged) {
-                (0, 0, 0) => Ok(Err(status)),
-                words => Err(format!("refused {status}, but the result words are {words:x?}")),
-            };
+        if status == 0 {
+            return Ok(Ok(words));
         }
-        if allowed > 1 || staged > 1 {
-            return Err(format!("allowed is {allowed:#x} and staged is {staged:#x}"));
+        if words == [0; N] {
+            return Ok(Err(status));
         }
-        Ok(Ok(Answer { granted, allowed: allowed == 1, staged: staged == 1 }))
+        Err(format!("refused {status}, but the result words are {words:x?}"))
+    }
+}
+
+/// A flag of an answer: 0 or 1.
+fn flag(name: &str, word: u32) -> Result<bool, String> {
+    if word > 1 {
+        return Err(format!("{name} is {word:#x}"));
+    }
+    Ok(word == 1)
+}
+
+fn verdict([granted, allowed, staged]: [u32; 3]) -> Result<Verdict, String> {
+    let (allowed, staged) = (flag("allowed", allowed)?, flag("staged", staged)?);
+    Ok(Verdict { granted, allowed, staged })
+}
+
+fn answer(words: [u32; 7]) -> Result<Answer, String> {
+    let [asked, normal, confined, ruled, granted, allowed, staged] = words;
+    let Verdict { allowed, staged, .. } = verdict([granted, allowed, staged])?;
+    Ok(Answer { asked, normal, confined, ruled, granted, allowed, staged })
+}
+
+/// What was made of the words of a call, unless it is a refusal.
+fn made<T, const N: usize>(
+    said: Result<[u32; N], u32>,
+    make: impl Fn([u32; N]) -> Result<T, String>,
+) -> Said<T> {
+    match said {
+        Ok(words) => make(words).map(Ok),
+        Err(number) => Ok(Err(number)),
+    }
+}
+
+/// The function that tells less says the same, as far as it goes.
+fn tells_alike(told: Result<Verdict, u32>, said: Result<Answer, u32>) -> Result<(), String> {
+    if told == said.map(|answer| answer.verdict()) {
+        Ok(())
+    } else {
+        Err(format!("without the masks the library says {told:?}, with them {said:?}"))
     }
 }
 
@@ -72,37 +113,17 @@ impl Library {
         (0..N).all(|i| self.inputs[i].holds(spots[i], inputs[i]))
     }
 
+    /// One question through `pirasteh_check` and `pirasteh_why`, which have to agree.
     pub fn check(&mut self, q: &Question, dice: u64) -> Said<Answer> {
         let inputs = [&q.token[..], &q.self_id, &q.descriptor, &q.policy];
         let spots = self.put(inputs, dice);
-        let [token, self_id, descriptor, policy] =
-            [0, 1, 2, 3].map(|i| self.inputs[i].bytes(spots[i]));
-        let mut words = Words::new();
-        let (granted, allowed, staged) = words.pointers();
-        // SAFETY: live slices, and words of our own.
-        let status = unsafe {
-            raw::pirasteh_check(
-                q.kind,
-                q.mask,
-                token.as_ptr(),
-                token.len(),
-                self_id.as_ptr(),
-                self_id.len(),
-                descriptor.as_ptr(),
-                descriptor.len(),
-                policy.as_ptr(),
-                policy.len(),
-                granted,
-                allowed,
-                staged,
-            )
-        };
-        let said = words.said(status)?;
+        let parts = [0, 1, 2, 3].map(|i| self.inputs[i].bytes(spots[i]));
+        let told = check(q.kind, q.mask, parts)?;
+        let said = why(q.kind, q.mask, parts)?;
+        tells_alike(told, said)?;
         // The safe wrapper, on the same bytes, now and then.
         if dice >> 61 == 0 {
-            let kind = Kind::from_number(q.kind);
-            let parts = [token, self_id, descriptor, policy];
-            checks_alike(said, kind, q.mask, parts)?;
+            checks_alike(said, Kind::from_number(q.kind), q.mask, parts)?;
         }
         if !self.inputs_hold(spots, inputs) {
             return Err("an input, or a byte beside one, was written".into());
@@ -110,18 +131,17 @@ impl Library {
         Ok(said)
     }
 
-    pub fn question(&mut self, file: &[u8], dice: u64) -> Said<Answer> {
+    /// One question file through `pirasteh_question` and `pirasteh_why_question`, which have to
+    /// agree. Gives the kind of object too.
+    pub fn question(&mut self, file: &[u8], dice: u64) -> Said<(Answer, u32)> {
         let spots = self.put([file], dice);
         let bytes = self.inputs[0].bytes(spots[0]);
-        let mut words = Words::new();
-        let (granted, allowed, staged) = words.pointers();
-        // SAFETY: a live slice, and words of our own.
-        let status = unsafe {
-            raw::pirasteh_question(bytes.as_ptr(), bytes.len(), granted, allowed, staged)
-        };
-        let said = words.said(status)?;
+        let told = question(bytes)?;
+        let said = why_question(bytes)?;
+        tells_alike(told, said.map(|(answer, _)| answer))?;
         if dice >> 61 == 0 {
-            agrees(said, pirasteh::question(bytes))?;
+            agrees(told, pirasteh::question(bytes))?;
+            wrapper_why_question(said, bytes)?;
         }
         if !self.inputs_hold(spots, [file]) {
             return Err("the file, or a byte beside it, was written".into());
@@ -196,16 +216,100 @@ impl Library {
     }
 }
 
-/// The wrapper's `check` and `allows` against what the library said. A kind that is not there is
-/// no question of the wrapper's: the library has to have refused it for its kind.
+fn check(kind: u32, mask: u32, [token, self_id, descriptor, policy]: [&[u8]; 4]) -> Said<Verdict> {
+    let mut words = Words::new();
+    let [granted, allowed, staged] = words.pointers();
+    // SAFETY: live slices, and words of our own.
+    let status = unsafe {
+        raw::pirasteh_check(
+            kind,
+            mask,
+            token.as_ptr(),
+            token.len(),
+            self_id.as_ptr(),
+            self_id.len(),
+            descriptor.as_ptr(),
+            descriptor.len(),
+            policy.as_ptr(),
+            policy.len(),
+            granted,
+            allowed,
+            staged,
+        )
+    };
+    made(words.said(status)?, verdict)
+}
+
+fn why(kind: u32, mask: u32, [token, self_id, descriptor, policy]: [&[u8]; 4]) -> Said<Answer> {
+    let mut words = Words::new();
+    let [asked, normal, confined, ruled, granted, allowed, staged] = words.pointers();
+    // SAFETY: live slices, and words of our own.
+    let status = unsafe {
+        raw::pirasteh_why(
+            kind,
+            mask,
+            token.as_ptr(),
+            token.len(),
+            self_id.as_ptr(),
+            self_id.len(),
+            descriptor.as_ptr(),
+            descriptor.len(),
+            policy.as_ptr(),
+            policy.len(),
+            asked,
+            normal,
+            confined,
+            ruled,
+            granted,
+            allowed,
+            staged,
+        )
+    };
+    made(words.said(status)?, answer)
+}
+
+fn question(file: &[u8]) -> Said<Verdict> {
+    let mut words = Words::new();
+    let [granted, allowed, staged] = words.pointers();
+    // SAFETY: a live slice, and words of our own.
+    let status =
+        unsafe { raw::pirasteh_question(file.as_ptr(), file.len(), granted, allowed, staged) };
+    made(words.said(status)?, verdict)
+}
+
+/// One question file through `pirasteh_why_question` alone.
+pub fn why_question(file: &[u8]) -> Said<(Answer, u32)> {
+    let mut words = Words::new();
+    let [kind, asked, normal, confined, ruled, granted, allowed, staged] = words.pointers();
+    // SAFETY: a live slice, and words of our own.
+    let status = unsafe {
+        raw::pirasteh_why_question(
+            file.as_ptr(),
+            file.len(),
+            kind,
+            asked,
+            normal,
+            confined,
+            ruled,
+            granted,
+            allowed,
+            staged,
+        )
+    };
+    made(words.said(status)?, |[kind, rest @ ..]: [u32; 8]| Ok((answer(rest)?, kind)))
+}
+
+/// The wrapper's `check`, `allows` and `why` against what the library said. A kind that is not there
+/// is no question of the wrapper's: the library has to have refused it for its kind.
 fn checks_alike(
     said: Result<Answer, u32>,
     kind: Option<Kind>,
     mask: u32,
     [token, self_id, descriptor, policy]: [&[u8]; 4],
 ) -> Result<(), String> {
+    let told = said.map(|answer| answer.verdict());
     let Some(kind) = kind else {
-        return agrees(said, Err(pirasteh::Error::Kind));
+        return agrees(told, Err(pirasteh::Error::Kind));
     };
     let question = pirasteh::Question {
         kind,
@@ -215,7 +319,8 @@ fn checks_alike(
         descriptor: Descriptor(descriptor),
         policy: Policy(policy),
     };
-    agrees(said, pirasteh::check(&question))?;
+    agrees(told, pirasteh::check(&question))?;
+    wrapper_why(said, &question)?;
     if pirasteh::allows(&question) == said.is_ok_and(|answer| answer.allowed) {
         Ok(())
     } else {
@@ -224,16 +329,16 @@ fn checks_alike(
 }
 
 fn agrees(
-    said: Result<Answer, u32>,
+    told: Result<Verdict, u32>,
     safe: Result<pirasteh::Answer, pirasteh::Error>,
 ) -> Result<(), String> {
     let safe = safe
-        .map(|a| Answer { granted: a.granted, allowed: a.allowed, staged: a.staged })
+        .map(|a| Verdict { granted: a.granted, allowed: a.allowed, staged: a.staged })
         .map_err(pirasteh::Error::number);
-    if safe == said {
+    if safe == told {
         Ok(())
     } else {
-        Err(format!("the safe wrapper says {safe:?}, the library {said:?}"))
+        Err(format!("the safe wrapper says {safe:?}, the library {told:?}"))
     }
 }
 
@@ -245,5 +350,55 @@ fn converts_alike(
         Ok(())
     } else {
         Err("the safe wrapper converts otherwise".into())
+    }
+}
+
+/// The wrapper's `why` against what the library said.
+fn wrapper_why(said: Result<Answer, u32>, question: &pirasteh::Question) -> Result<(), String> {
+    explains_alike(said.map(|answer| (answer, question.kind.number())), pirasteh::why(question))
+}
+
+/// The wrapper's `why_question` against what the library said.
+fn wrapper_why_question(said: Result<(Answer, u32), u32>, file: &[u8]) -> Result<(), String> {
+    explains_alike(said, pirasteh::why_question(file))
+}
+
+fn explains_alike(
+    said: Result<(Answer, u32), u32>,
+    safe: Result<pirasteh::Why, pirasteh::Error>,
+) -> Result<(), String> {
+    let all = |why: &pirasteh::Why| {
+        let answer = Answer {
+            asked: why.asked,
+            normal: why.normal,
+            confined: why.confined,
+            ruled: why.ruled,
+            granted: why.granted,
+            allowed: why.allowed,
+            staged: why.staged,
+        };
+        (answer, why.kind.number())
+    };
+    if safe.as_ref().map(all).map_err(|error| error.number()) != said {
+        return Err(format!("the safe wrapper says {safe:?}, the library {said:?}"));
+    }
+    safe.map_or(Ok(()), |why| loses_alike(&why))
+}
+
+/// What `why` says was lost: each bit once, from the lowest up, at the step that took it.
+fn loses_alike(why: &pirasteh::Why) -> Result<(), String> {
+    let steps = [
+        (why.asked & !why.normal, pirasteh::Step::NormalEvaluation),
+        (why.normal & !why.confined, pirasteh::Step::Confinement),
+        (why.confined & !why.ruled, pirasteh::Step::Policy),
+    ];
+    let step_of = |bit: u32| steps.iter().find(|(lost, _)| lost & bit != 0).map(|(_, step)| *step);
+    let bits = (0..32).map(|place| 1 << place);
+    let expected: Vec<_> = bits.filter_map(|bit| Some((bit, step_of(bit)?))).collect();
+    let said: Vec<_> = why.lost().map(|lost| (lost.bit, lost.step)).collect();
+    if said == expected {
+        Ok(())
+    } else {
+        Err(format!("the safe wrapper says that {said:x?} is lost, expected {expected:x?}"))
     }
 }

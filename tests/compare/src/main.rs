@@ -11,11 +11,13 @@ mod conditions;
 mod crowds;
 mod decided;
 mod fence;
+mod gained;
 mod library;
 mod lists;
 mod numbers;
 mod rooms;
 mod spare;
+mod steps;
 mod vectors;
 mod who;
 

@@ -1,12 +1,14 @@
 //! Checks library and reference against the vector files of a directory.
 //!
 //! A file holds cases with a blank line between them: `#` lines that give the reason, then
-//! `ask` and `line`, or two of `record`, `listing` and `refused`.
+//! `ask` and `line`, with `masks` if the line is an answer, or two of `record`, `listing` and
+//! `refused`.
 
+use crate::library;
 use pirasteh::{Error, Listing, Token};
 use pirasteh_cases::hex;
 use pirasteh_cases::make::{self, Question};
-use pirasteh_reference as reference;
+use pirasteh_reference::{self as reference, Answer};
 use std::collections::BTreeMap;
 use std::fs;
 use std::path::Path;
@@ -80,7 +82,15 @@ fn bytes(text: &str) -> Result<Vec<u8>, String> {
 fn run_case(fields: &Fields) -> Result<(), String> {
     let names: Vec<&str> = fields.keys().copied().collect();
     match names[..] {
-        ["ask", "line"] => ask(&bytes(fields["ask"])?, fields["line"]),
+        ["ask", "line"] | ["ask", "line", "masks"] => {
+            let (line, masks) = (fields["line"], fields.get("masks").copied());
+            let masks = match (line.starts_with("refused "), masks) {
+                (true, None) => NO_MASKS,
+                (false, Some(masks)) => masks,
+                _ => return Err("an answer without `masks`, or a refusal with them".into()),
+            };
+            ask(&bytes(fields["ask"])?, line, masks)
+        }
         ["listing", "record"] => convert(&bytes(fields["record"])?, &bytes(fields["listing"])?),
         ["record", "refused"] => {
             let record = bytes(fields["record"])?;
@@ -90,7 +100,7 @@ fn run_case(fields: &Fields) -> Result<(), String> {
                 reference::list(&record),
             )?;
             let file = with_token(&record, &[&make::sid(5, &[])]);
-            ask(&file, &format!("refused {}", fields["refused"]))
+            ask(&file, &format!("refused {}", fields["refused"]), NO_MASKS)
         }
         ["listing", "refused"] => {
             let listing = bytes(fields["listing"])?;
@@ -104,13 +114,35 @@ fn run_case(fields: &Fields) -> Result<(), String> {
     }
 }
 
-fn ask(file: &[u8], line: &str) -> Result<(), String> {
-    let said = match pirasteh::question(file) {
+/// Those of a refusal.
+const NO_MASKS: &str = "0x00000000 0x00000000 0x00000000 0x00000000";
+
+/// As a vector has them.
+fn masks_of(result: &Result<Answer, u32>) -> String {
+    reference::masks(result).map(|mask| format!("0x{mask:08x}")).join(" ")
+}
+
+/// One question file, through the wrapper, through the function that tells the masks, and to the
+/// reference.
+fn ask(file: &[u8], line: &str, masks: &str) -> Result<(), String> {
+    let safe = match pirasteh::question(file) {
         Ok(answer) => answer.to_string(),
         Err(error) => format!("refused {}", error.number()),
     };
-    expect("library", &said, line)?;
-    expect("reference", &reference::line(&reference::question(file)), line)
+    expect("library", &safe, line)?;
+    let said = library::why_question(file)?;
+    let expected = reference::question_and_kind(file);
+    for (who, said) in [("library, with its masks,", said), ("reference", expected)] {
+        let answer = said.map(|(answer, _)| answer);
+        expect(who, &reference::line(&answer), line)?;
+        expect(who, &masks_of(&answer), masks)?;
+    }
+    // The bits asked and the kind stand in no vector.
+    if said == expected {
+        Ok(())
+    } else {
+        Err(format!("library says {said:x?}, reference {expected:x?}"))
+    }
 }
 
 fn expect(who: &str, said: &str, line: &str) -> Result<(), String> {
@@ -132,7 +164,8 @@ fn convert(record: &[u8], listing: &[u8]) -> Result<(), String> {
     converts("lists the record", |out| pirasteh::list(Token(record), out), listing)?;
     converts("packs the listing", |out| pirasteh::pack(Listing(listing), out), record)?;
     let file = with_token(record, &who(listing));
-    ask(&file, &reference::line(&reference::question(&file)))
+    let expected = reference::question(&file);
+    ask(&file, &reference::line(&expected), &masks_of(&expected))
 }
 
 /// The user of a listing and, if it is confined, its confinement identity.

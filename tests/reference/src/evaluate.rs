@@ -1,6 +1,9 @@
 //! From well-shaped parts to an answer: matching, the pass over a list, normal evaluation,
 //! confinement, rules.
 
+#[cfg(test)]
+mod tests;
+
 use crate::acl::Acl;
 use crate::masks::{self, Rights, MAXIMUM};
 use crate::policy::Rule;
@@ -143,24 +146,36 @@ fn confinement(setting: &Setting, list: Option<&Acl>) -> u32 {
     pass(setting, &listed, list)
 }
 
-/// The answer to an accepted question.
-pub fn answer(setting: &Setting, mask: u32, dacl: Option<&Acl>, rules: &[Rule]) -> Answer {
-    let asked = setting.rights.asked(mask);
-    let explicit = setting.rights.explicit(mask);
-
-    let mut granted = asked & normal(setting, dacl) & confinement(setting, dacl);
+/// What every rule that applies leaves, and the staging flag.
+fn policy(setting: &Setting, asked: u32, rules: &[Rule]) -> (u32, bool) {
+    let mut left = u32::MAX;
     let mut staged = false;
     let listed = normal_identities(setting.token);
     for rule in rules.iter().filter(|rule| rule.applies(|sid| is_member(setting, &listed, sid))) {
         let effective = normal(setting, Some(&rule.effective));
-        granted &= effective;
+        left &= effective;
         if let Some(list) = &rule.staged {
             let proposed = normal(setting, Some(list));
             staged |= (effective ^ proposed) & asked != 0;
         }
     }
+    (left, staged)
+}
+
+/// The answer to an accepted question: the asked bits, and what each step leaves of them.
+pub fn answer(setting: &Setting, mask: u32, dacl: Option<&Acl>, rules: &[Rule]) -> Answer {
+    let asked = setting.rights.asked(mask);
+    let explicit = setting.rights.explicit(mask);
+
+    // Owner's rights and privileges are inside the first.
+    let normal = asked & normal(setting, dacl);
+    let confined = normal & confinement(setting, dacl);
+    let (left, staged) = policy(setting, asked, rules);
+    let ruled = confined & left;
+    // Nothing comes after the policy.
+    let granted = ruled;
 
     let wanted_something = mask & MAXIMUM != 0;
     let allowed = explicit & !granted == 0 && !(wanted_something && granted == 0);
-    Answer { granted, allowed, staged }
+    Answer { asked, normal, confined, ruled, granted, allowed, staged }
 }

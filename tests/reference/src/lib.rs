@@ -1,8 +1,8 @@
 //! The access check once more, in plain Rust.
 //!
-//! Written from document 01 alone, with requests 101, 102 and 103 of document 02, and not from the
-//! proved library, so that the two can be compared. It is meant to be read: it copies and allocates
-//! freely, and every step stands where the document has it. For speed look elsewhere.
+//! Written from document 01 alone, with requests 101, 102, 103 and 106 of document 02, and not from
+//! the proved library, so that the two can be compared. It is meant to be read: it copies and
+//! allocates freely, and every step stands where the document has it. For speed look elsewhere.
 //!
 //! Refusals are the document's numbers as they are, in `Err`.
 
@@ -38,9 +38,34 @@ pub mod refused {
 /// What an accepted question is answered with.
 #[derive(Clone, Copy, Debug, PartialEq, Eq)]
 pub struct Answer {
+    /// The bits asked for.
+    pub asked: u32,
+    /// What is left of these after normal evaluation, after confinement and after the policy.
+    pub normal: u32,
+    pub confined: u32,
+    pub ruled: u32,
     pub granted: u32,
     pub allowed: bool,
     pub staged: bool,
+}
+
+/// An answer without its way there: what the program prints in one line.
+#[derive(Clone, Copy, Debug, PartialEq, Eq)]
+pub struct Verdict {
+    pub granted: u32,
+    pub allowed: bool,
+    pub staged: bool,
+}
+
+impl Answer {
+    /// The masks in the order of the steps; each lies within the one before.
+    pub fn masks(&self) -> [u32; 4] {
+        [self.normal, self.confined, self.ruled, self.granted]
+    }
+
+    pub fn verdict(&self) -> Verdict {
+        Verdict { granted: self.granted, allowed: self.allowed, staged: self.staged }
+    }
 }
 
 /// One question, from its parts. The refusals come in the order of their numbers.
@@ -87,8 +112,14 @@ pub fn check(
 
 /// One question, from a question file.
 pub fn question(bytes: &[u8]) -> Result<Answer, u32> {
+    question_and_kind(bytes).map(|(answer, _)| answer)
+}
+
+/// The same, with the kind of object that the file asks about.
+pub fn question_and_kind(bytes: &[u8]) -> Result<(Answer, u32), u32> {
     let q = file::read(bytes).ok_or(refused::FILE_SHAPE)?;
-    check(q.kind, q.mask, q.token, q.self_id, q.descriptor, q.policy)
+    let answer = check(q.kind, q.mask, q.token, q.self_id, q.descriptor, q.policy)?;
+    Ok((answer, q.kind))
 }
 
 /// Packed token record to flat listing.
@@ -131,5 +162,13 @@ pub fn line(result: &Result<Answer, u32>) -> String {
             word(a.staged)
         ),
         Err(number) => format!("refused {number}"),
+    }
+}
+
+/// The four masks of an answer. A refusal has none: all four are 0.
+pub fn masks(result: &Result<Answer, u32>) -> [u32; 4] {
+    match result {
+        Ok(answer) => answer.masks(),
+        Err(_) => [0; 4],
     }
 }

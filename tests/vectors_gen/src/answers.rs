@@ -7,6 +7,7 @@ mod confinement;
 mod crowds;
 mod decided;
 mod identities;
+mod masks;
 mod numbers;
 mod rights;
 mod seats;
@@ -38,5 +39,6 @@ pub fn cases() -> Vec<Case> {
     all.extend(crowds::cases());
     all.extend(decided::cases());
     all.extend(seats::cases());
+    all.extend(masks::cases());
     all
 }

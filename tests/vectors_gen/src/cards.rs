@@ -44,19 +44,23 @@ pub fn cases() -> Vec<Case> {
         ask(
             "c7: a rule allows 1 and stages 3",
             on(tu(), 3, d_by(&[allow(3, &u())])).policy(c7.clone()),
-            no_staged(1),
+            no_staged(1).after(3, 3),
         ),
         ask(
             "c7: asking 1, where effective and staged list agree",
             on(tu(), 1, d_by(&[allow(3, &u())])).policy(c7),
             yes(1),
         ),
-        ask("c8: a confined token, none of whose own identities is named", c1().token(c8), no(0)),
+        ask(
+            "c8: a confined token, none of whose own identities is named",
+            c1().token(c8),
+            no(0).after(0x0012_0089, 0),
+        ),
         ask("c8: the same token exempt (flags 03)", c1().token(c8_exempt), yes(0x0012_0089)),
         ask(
             "c9: confined with SeSecurity on a null DACL; 0x01000000 is lost",
             c1().token(c9).descriptor(Descriptor::owned_by(&w()).bytes()).mask(0x0100_0001),
-            no(1),
+            no(1).after(0x0100_0001, 1),
         ),
         ask("c10: asking nothing is allowed", c1().mask(0), yes(0)),
         ask(
@@ -78,7 +82,7 @@ pub fn cases() -> Vec<Case> {
         ask(
             "256 rules are taken; these allow nothing",
             c1().policy(make::policy(&vec![no_rule; 256])),
-            no(0),
+            no(0).after(0x0012_0089, 0x0012_0089),
         ),
     ]
 }

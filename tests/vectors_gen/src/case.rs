@@ -9,7 +9,7 @@ pub struct Case {
 }
 
 pub enum Body {
-    Ask { file: Vec<u8>, line: String },
+    Ask { file: Vec<u8>, line: Line },
     Convert { record: Vec<u8>, listing: Vec<u8> },
     RefusedRecord { record: Vec<u8>, number: u32 },
     RefusedListing { listing: Vec<u8>, number: u32 },
@@ -20,7 +20,12 @@ impl Case {
         let reason = &self.reason;
         match &self.body {
             Body::Ask { file, line } => {
-                format!("# {reason}\nask = {}\nline = {line}\n", hex::encode(file))
+                let masks = line.masks.map_or(String::new(), |masks| {
+                    let words = masks.map(|mask| format!(" 0x{mask:08x}"));
+                    format!("masks ={}\n", words.concat())
+                });
+                let file = hex::encode(file);
+                format!("# {reason}\nask = {file}\nline = {}\n{masks}", line.text)
             }
             Body::Convert { record, listing } => format!(
                 "# {reason}\nrecord = {}\nlisting = {}\n",
@@ -38,33 +43,56 @@ impl Case {
 }
 
 /// A question, by its file.
-pub fn ask(reason: &str, question: Question, line: String) -> Case {
+pub fn ask(reason: &str, question: Question, line: Line) -> Case {
     ask_file(reason, question.file(), line)
 }
 
-pub fn ask_file(reason: &str, file: Vec<u8>, line: String) -> Case {
+pub fn ask_file(reason: &str, file: Vec<u8>, line: Line) -> Case {
     Case { reason: reason.into(), body: Body::Ask { file, line } }
 }
 
-/// The lines that the program prints.
-pub fn yes(granted: u32) -> String {
-    format!("granted 0x{granted:08x} allowed yes staged no")
+/// What is expected of a question: the line that the program prints and, if it is answered, the
+/// four masks.
+pub struct Line {
+    pub text: String,
+    pub masks: Option<[u32; 4]>,
 }
 
-pub fn no(granted: u32) -> String {
-    format!("granted 0x{granted:08x} allowed no staged no")
+impl Line {
+    /// An answer in which normal evaluation alone takes something, if anything does: all four masks
+    /// are the granted one.
+    fn answer(granted: u32, allowed: &str, staged: &str) -> Line {
+        let text = format!("granted 0x{granted:08x} allowed {allowed} staged {staged}");
+        Line { text, masks: Some([granted; 4]) }
+    }
+
+    /// The same where confinement or the policy takes something: what normal evaluation leaves of
+    /// the bits asked, and what confinement leaves of these.
+    pub fn after(mut self, normal: u32, confined: u32) -> Line {
+        let masks = self.masks.as_mut().expect("a refusal has no masks");
+        masks[..2].copy_from_slice(&[normal, confined]);
+        self
+    }
 }
 
-pub fn yes_staged(granted: u32) -> String {
-    format!("granted 0x{granted:08x} allowed yes staged yes")
+pub fn yes(granted: u32) -> Line {
+    Line::answer(granted, "yes", "no")
 }
 
-pub fn no_staged(granted: u32) -> String {
-    format!("granted 0x{granted:08x} allowed no staged yes")
+pub fn no(granted: u32) -> Line {
+    Line::answer(granted, "no", "no")
 }
 
-pub fn refused(number: u32) -> String {
-    format!("refused {number}")
+pub fn yes_staged(granted: u32) -> Line {
+    Line::answer(granted, "yes", "yes")
+}
+
+pub fn no_staged(granted: u32) -> Line {
+    Line::answer(granted, "no", "yes")
+}
+
+pub fn refused(number: u32) -> Line {
+    Line { text: format!("refused {number}"), masks: None }
 }
 
 /// S-1-5-0-7, S-1-5-7 and S-1-5-32-544.

@@ -15,7 +15,7 @@ fn d_with(at: usize, new: &[u8]) -> Vec<u8> {
     patched(d(), at, new)
 }
 
-fn given(reason: &str, descriptor: Vec<u8>, line: String) -> Case {
+fn given(reason: &str, descriptor: Vec<u8>, line: Line) -> Case {
     ask(reason, c1().descriptor(descriptor), line)
 }
 

@@ -91,8 +91,10 @@ mod tests {
             for case in &cases {
                 let said = match &case.body {
                     Body::Ask { file, line } => {
-                        let said = reference::line(&reference::question(file));
-                        (said != *line).then_some(said)
+                        let said = reference::question(file);
+                        let (text, masks) = (reference::line(&said), reference::masks(&said));
+                        let fine = text == line.text && masks == line.masks.unwrap_or([0; 4]);
+                        (!fine).then(|| format!("{text}, masks {masks:#x?}, not {:x?}", line.masks))
                     }
                     Body::Convert { record, listing } => {
                         let there = reference::list(record);
@@ -115,6 +117,23 @@ mod tests {
             }
         }
         assert!(wrong.is_empty(), "\n{}", wrong.join("\n"));
+    }
+
+    #[test]
+    fn each_mask_lies_within_the_one_before() {
+        for (name, _, cases) in files() {
+            for case in &cases {
+                let Body::Ask { line, .. } = &case.body else { continue };
+                let Some(masks @ [.., ruled, granted]) = line.masks else {
+                    assert!(line.text.starts_with("refused "), "{name}: {}", case.reason);
+                    continue;
+                };
+                let within = masks.windows(2).all(|pair| pair[1] & !pair[0] == 0);
+                assert!(within && ruled == granted, "{name}: {}", case.reason);
+                let said = format!("granted 0x{granted:08x} ");
+                assert!(line.text.starts_with(&said), "{name}: {}", case.reason);
+            }
+        }
     }
 
     #[test]

@@ -9,7 +9,7 @@ use pirasteh_cases::make::{self, acl, allow, bare_entry, deny, policy, Descripto
 const READ: u32 = 0x8000_0000;
 const GRANTED: u32 = 0x0012_0089;
 
-fn given(reason: &str, policy: Vec<u8>, line: String) -> Case {
+fn given(reason: &str, policy: Vec<u8>, line: Line) -> Case {
     ask(reason, c1().policy(policy), line)
 }
 
@@ -75,7 +75,7 @@ fn sections() -> Vec<Case> {
         given(
             "an effective DACL of 8 bytes without entries allows nothing",
             rule(&acl(&[])),
-            no(0),
+            no(0).after(GRANTED, GRANTED),
         ),
         bad("a section 4 bytes longer than its list", rule(&longer)),
         bad(
@@ -112,7 +112,7 @@ fn rules() -> Vec<Case> {
     let asks =
         |mask: u32, rules: &[Rule]| on_list(tu(), mask, &[allow(7, &u())]).policy(policy(rules));
     vec![
-        ask("a rule narrows", asks(7, &[Rule::of(&l(&[allow(3, &u())]))]), no(3)),
+        ask("a rule narrows", asks(7, &[Rule::of(&l(&[allow(3, &u())]))]), no(3).after(7, 7)),
         ask(
             "every rule narrows, not the first alone",
             asks(
@@ -123,7 +123,7 @@ fn rules() -> Vec<Case> {
                     Rule::of(&l(&[allow(5, &u())])),
                 ],
             ),
-            no(4),
+            no(4).after(7, 7),
         ),
         ask(
             "a rule never gives more than the DACL",
@@ -133,12 +133,12 @@ fn rules() -> Vec<Case> {
         ask(
             "a rule that denies what it did not allow before",
             asks(7, &[Rule::of(&l(&[allow(4, &u()), deny(6, &u()), allow(7, &u())]))]),
-            no(5),
+            no(5).after(7, 7),
         ),
         ask(
             "a staged list may allow more and changes nothing but the flag",
             asks(7, &[Rule::of(&l(&[allow(3, &u())])).staged(&l(&[allow(7, &u())]))]),
-            no_staged(3),
+            no_staged(3).after(7, 7),
         ),
         ask(
             "a staged list may allow less and changes nothing but the flag",
@@ -177,7 +177,7 @@ fn rules() -> Vec<Case> {
                     Rule::of(&l(&[allow(3, &u())])).staged(&l(&[allow(3, &u())])),
                 ],
             ),
-            no(3),
+            no(3).after(7, 7),
         ),
         ask(
             "staged SACLs raise no flag",
@@ -194,7 +194,7 @@ fn rules() -> Vec<Case> {
             "a rule on a null DACL",
             on(tu(), 3, Descriptor::owned_by(&w()))
                 .policy(policy(&[Rule::of(&l(&[allow(1, &u())]))])),
-            no(1),
+            no(1).after(3, 3),
         ),
         ask(
             "a rule is judged without confinement: it need not name the package",
@@ -206,7 +206,7 @@ fn rules() -> Vec<Case> {
             "a rule is judged by the user, not by the package",
             on_list(confined(), 3, &[allow(3, &u()), allow(3, &package())])
                 .policy(policy(&[Rule::of(&l(&[allow(3, &package())]))])),
-            no(0),
+            no(0).after(3, 3),
         ),
     ]
 }
@@ -229,17 +229,17 @@ fn long_entries() -> Vec<Case> {
         ask(
             "an entry with spare bytes narrows as it does without",
             asks(7, &[Rule::of(&l(&[long_deny(4, &u(), &[0xFF; 8]), allow(7, &u())]))]),
-            no(3),
+            no(3).after(7, 7),
         ),
         ask(
             "a rule whose spare bytes hold a whole allow entry, which is not taken",
             asks(7, &[Rule::of(&l(&[long_allow(3, &u(), &allow(7, &u()))]))]),
-            no(3),
+            no(3).after(7, 7),
         ),
         ask(
             "a rule with an entry of 4,000 bytes, where the entry behind it is found by the size",
             asks(7, &[Rule::of(&l(&[long_deny(4, &g(), &[0; 3976]), allow(5, &u())]))]),
-            no(5),
+            no(5).after(7, 7),
         ),
         ask(
             "a staged list that differs by spare bytes alone raises no flag",
@@ -267,7 +267,7 @@ fn long_entries() -> Vec<Case> {
         ask(
             "S-1-3-4 in an entry of a rule that has spare bytes takes the two rights",
             owns.policy(policy(&[Rule::of(&l(&[long_allow(0x2_0000, &own, &[0; 4])]))])),
-            no(0x2_0000),
+            no(0x2_0000).after(0x6_0000, 0x6_0000),
         ),
         bad("an effective DACL: a SID goes on into the next entry", policy(&[Rule::of(&short())])),
         bad(
@@ -323,12 +323,12 @@ fn owners() -> Vec<Case> {
         ask(
             "owner rights: in a rule flags 0x13 count",
             asks(&[], &[rule(&[make::entry(1, 0x13, 0, &own)])]),
-            no(0),
+            no(0).after(BOTH, BOTH),
         ),
         ask(
             "owner rights: inherit-only in the DACL, and one that counts in a rule",
             asks(&[child()], &[rule(&[nothing()])]),
-            no(0),
+            no(0).after(BOTH, BOTH),
         ),
         ask(
             "owner rights: one that counts in the DACL, and inherit-only in a rule",
@@ -343,17 +343,17 @@ fn owners() -> Vec<Case> {
         ask(
             "owner rights: inherit-only in the first rule, one that counts in the second",
             asks(&[], &[rule(&[child()]), rule(&[allow(0x2_0000, &own)])]),
-            no(0x2_0000),
+            no(0x2_0000).after(BOTH, BOTH),
         ),
         ask(
             "owner rights: in a rule one counts behind an inherit-only one",
             asks(&[], &[rule(&[child(), allow(0x4_0000, &own)])]),
-            no(0x4_0000),
+            no(0x4_0000).after(BOTH, BOTH),
         ),
         ask(
             "owner rights: a null DACL, and an inherit-only S-1-3-4 in a rule",
             on(tu(), 0x6_0001, Descriptor::owned_by(&u())).policy(policy(&[rule(&[child()])])),
-            no(BOTH),
+            no(BOTH).after(0x6_0001, 0x6_0001),
         ),
         ask(
             "staging: an inherit-only S-1-3-4 in the staged list alone raises no flag",
@@ -373,7 +373,7 @@ fn owners() -> Vec<Case> {
         ask(
             "staging: one that counts in the effective list, inherit-only in the staged one",
             staged(&[nothing()], &[child()]),
-            no_staged(0),
+            no_staged(0).after(BOTH, BOTH),
         ),
         ask(
             "staging: an inherited S-1-3-4 in the staged list counts",
@@ -388,7 +388,7 @@ fn owners() -> Vec<Case> {
         ask(
             "staging: both lists have one that counts, before and behind an inherit-only one",
             staged(&[nothing(), child()], &[child(), nothing()]),
-            no(0),
+            no(0).after(BOTH, BOTH),
         ),
     ]
 }

@@ -128,7 +128,7 @@ fn token_shape() -> Vec<Case> {
         ask("3: 257 groups", c1().token(crowd_and_one.record()), refused(3)),
         ask("256 groups", c1().token(crowd.record()), yes(0x0012_0089)),
         ask("3: 65 capabilities", c1().token(shelf_and_one.record()), refused(3)),
-        ask("64 capabilities", c1().token(shelf.record()), no(0)),
+        ask("64 capabilities", c1().token(shelf.record()), no(0).after(0x0012_0089, 0)),
         token("3: confined without confinement fields", "01 01 00 02 05 00 07 00"),
         token(
             "3: confinement fields without the flag",
@@ -228,7 +228,7 @@ fn token_rules() -> Vec<Case> {
                 )
                 .record(),
             ),
-            no(0),
+            no(0).after(0x0012_0089, 0),
         ),
         ask("4 before 5", c1().token(tu().exempt().record()).self_id(&bad_self()), refused(4)),
     ]

@@ -6,7 +6,7 @@ use crate::lists::{self, entries, is_callback, Whose};
 use pirasteh_cases::conditions::faults;
 use pirasteh_cases::expressions::padded;
 use pirasteh_cases::make::Question;
-use pirasteh_reference::Answer;
+use pirasteh_reference::Verdict;
 
 /// One condition.
 pub struct Spot<'a> {
@@ -96,7 +96,7 @@ impl Spot<'_> {
     }
 
     /// What the reference says with this condition in place of its own.
-    pub fn says(&self, q: &Question, condition: &[u8]) -> Option<Result<Answer, u32>> {
+    pub fn says(&self, q: &Question, condition: &[u8]) -> Option<Result<Verdict, u32>> {
         if self.condition == condition {
             return Some(children::ask(q));
         }

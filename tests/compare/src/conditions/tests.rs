@@ -1,5 +1,5 @@
 use super::*;
-use crate::children::ask;
+use crate::children::{answer, ask};
 use pirasteh_cases::random::{about, case, About, Case};
 use pirasteh_cases::Rng;
 
@@ -29,13 +29,13 @@ fn all_are_reached_by_the_cases_about_them() {
 fn a_twin_has_the_same_answer_and_other_strangers_entries() {
     let mut twins = [0; 3];
     for (number, q) in questions(3, 40_000) {
-        let answer = ask(&q);
-        if answer.is_err() {
+        let before = answer(&q);
+        if before.is_err() {
             continue;
         }
         if let Some((twin, way)) = twin(&q, &mut Rng::new(4, number)) {
             twins[way as usize] += 1;
-            assert_eq!(ask(&twin), answer, "case {number} of seed 3");
+            assert_eq!(answer(&twin), before, "case {number} of seed 3");
         }
     }
     assert!(twins.iter().all(|&times| times > 300), "only {twins:?}");

@@ -10,13 +10,13 @@ use pirasteh_cases::conditions::truths::Row;
 use pirasteh_cases::conditions::{Pass, Place};
 use pirasteh_cases::expressions::*;
 use pirasteh_cases::make::{deny, Question};
-use pirasteh_reference::Answer;
+use pirasteh_reference::Verdict;
 
 /// S-1-5-99, who is in no case about conditions.
 const NOBODY: [u8; 12] = [1, 1, 0, 0, 0, 0, 0, 5, 99, 0, 0, 0];
 
 /// Whether some condition at the place is of the row, and the answer hangs on it.
-pub fn is_row(row: Row, place: Place, q: &Question, answer: Answer) -> bool {
+pub fn is_row(row: Row, place: Place, q: &Question, answer: Verdict) -> bool {
     let here = match place.pass {
         Pass::Normal | Pass::Confined => faults::Spot::Descriptor,
         Pass::Effective => faults::Spot::Effective,
@@ -35,7 +35,7 @@ pub fn is_row(row: Row, place: Place, q: &Question, answer: Answer) -> bool {
 }
 
 /// What a condition says, if the answer would be another by the opposite.
-pub fn hangs(place: Place, q: &Question, spot: &Spot, answer: Answer) -> Option<bool> {
+pub fn hangs(place: Place, q: &Question, spot: &Spot, answer: Verdict) -> Option<bool> {
     let in_list = place.pass != Pass::AppliesTo;
     if in_list && (spot.is_deny() != place.second || spot.is_inherit_only()) {
         return None;
@@ -68,7 +68,7 @@ struct Case<'a> {
     place: Place,
     q: &'a Question,
     spot: &'a Spot<'a>,
-    answer: Answer,
+    answer: Verdict,
     now: bool,
 }
 
@@ -174,7 +174,7 @@ fn other_count(token: u8) -> Option<u8> {
 }
 
 /// Whether an entry for S-1-3-4 is silent, and the answer shows whether it counts.
-fn is_silent(row: Row, place: Place, q: &Question, spot: &Spot, answer: Answer) -> bool {
+fn is_silent(row: Row, place: Place, q: &Question, spot: &Spot, answer: Verdict) -> bool {
     let child = row == Row::SilentChild;
     if spot.sid() != OWNER_RIGHTS
         || spot.is_deny() != place.second

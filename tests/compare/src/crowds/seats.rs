@@ -7,7 +7,7 @@ use crate::who::{One, Who, OWNER_RIGHTS, PRINCIPAL_SELF};
 use pirasteh_cases::crowds::seats::{aim, aims, Aim, Shape, STEPS};
 use pirasteh_cases::key::key;
 use pirasteh_cases::make::Question;
-use pirasteh_reference::Answer;
+use pirasteh_reference::Verdict;
 
 /// Whom an entry names: of those who have one key, or of all where nothing is said of keys.
 const WHOM: [&str; 7] = [
@@ -124,7 +124,7 @@ fn pair(shape: Shape) -> Option<usize> {
 
 impl Table {
     /// Adds the accepted question of one turn.
-    pub fn add(&mut self, turn: u64, q: &Question, answer: Answer) {
+    pub fn add(&mut self, turn: u64, q: &Question, answer: Verdict) {
         let aim = aim(turn);
         let Some(who) = Who::of(q) else { return };
         let Some(named) = named(q) else { return };
@@ -159,7 +159,14 @@ impl Table {
         }
     }
 
-    fn stood_for(&mut self, aim: Aim, those: &[&One], q: &Question, named: &Named, answer: Answer) {
+    fn stood_for(
+        &mut self,
+        aim: Aim,
+        those: &[&One],
+        q: &Question,
+        named: &Named,
+        answer: Verdict,
+    ) {
         let Some(pair) = pair(aim.shape) else { return };
         let by = if aim.confined { [3, 4] } else { [0, 2] };
         let owner = owner_of(q).unwrap_or_default();

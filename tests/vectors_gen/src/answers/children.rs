@@ -209,7 +209,7 @@ fn askers() -> Vec<Case> {
         ask(
             "inherit-only S-1-3-4: an owner's rights do not pass confinement",
             by(confined(), &u(), &[]),
-            no(0),
+            no(0).after(BOTH, 0),
         ),
         ask(
             "inherit-only S-1-3-4: confined, where the package is allowed both",
@@ -219,7 +219,7 @@ fn askers() -> Vec<Case> {
         ask(
             "inherit-only S-1-3-4: confined, and the package owns the object; it is skipped",
             by(confined(), &package(), &[allow(BOTH, &u())]),
-            no(0),
+            no(0).after(BOTH, 0),
         ),
     ]
 }

@@ -28,7 +28,7 @@ fn owned(token: Token, owner: &[u8], entries: &[Vec<u8>]) -> Question {
 }
 
 /// 1 is granted, or nothing is.
-fn granted(is: bool) -> String {
+fn granted(is: bool) -> Line {
     if is {
         yes(1)
     } else {

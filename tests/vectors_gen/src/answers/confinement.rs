@@ -15,7 +15,7 @@ pub fn cases() -> Vec<Case> {
         ask("the confinement identity", both(3, &package()), yes(3)),
         ask("a capability", both(3, &one), yes(3)),
         ask("S-1-15-2-2, the capability that all have", both(3, &all_restricted()), yes(3)),
-        ask("S-1-15-2-1 without that capability", both(3, &everyone), no(0)),
+        ask("S-1-15-2-1 without that capability", both(3, &everyone), no(0).after(3, 0)),
         ask(
             "S-1-15-2-1 as a group matches as any group does",
             on_list(tu().group(&everyone, 4), 1, &[allow(1, &everyone)]),
@@ -35,16 +35,20 @@ pub fn cases() -> Vec<Case> {
             on_list(token(), 3, &[allow(1, &u()), allow(3, &package())]),
             no(1),
         ),
-        ask("a user named alone is not enough", on_list(token(), 1, &[allow(1, &u())]), no(0)),
+        ask(
+            "a user named alone is not enough",
+            on_list(token(), 1, &[allow(1, &u())]),
+            no(0).after(1, 0),
+        ),
         ask(
             "groups do not count in confinement",
             on_list(token().group(&g(), 4), 1, &[allow(1, &g())]),
-            no(0),
+            no(0).after(1, 0),
         ),
         ask(
             "a deny to a capability",
             on_list(token(), 3, &[deny(1, &one), allow(3, &u()), allow(3, &package())]),
-            no(2),
+            no(2).after(3, 2),
         ),
         ask(
             "a deny to the user does not count in confinement, but in normal evaluation",
@@ -58,12 +62,12 @@ pub fn cases() -> Vec<Case> {
                 0x6_0000,
                 Descriptor::owned_by(&package()).dacl(&acl(&[allow(0x6_0000, &u())])),
             ),
-            no(0),
+            no(0).after(0x6_0000, 0),
         ),
         ask(
             "owner's rights of the user do not pass confinement",
             on(token(), 0x6_0000, Descriptor::owned_by(&u()).dacl(&acl(&[]))),
-            no(0),
+            no(0).after(0x6_0000, 0),
         ),
         ask(
             "owner's rights of the user, where the package is allowed them",
@@ -87,7 +91,7 @@ pub fn cases() -> Vec<Case> {
         ask(
             "S-1-3-4 does not follow the user there",
             on(token(), 1, Descriptor::owned_by(&u()).dacl(&acl(&[allow(1, &owner_rights())]))),
-            no(0),
+            no(0).after(1, 0),
         ),
         ask(
             "S-1-5-10 follows the confinement set",
@@ -97,12 +101,12 @@ pub fn cases() -> Vec<Case> {
         ask(
             "S-1-5-10 does not follow the user there",
             on_list(token(), 1, &[allow(1, &principal_self())]).self_id(&u()),
-            no(0),
+            no(0).after(1, 0),
         ),
         ask(
             "privileges do not pass confinement",
             on_list(token().privileges(TAKE_OWNERSHIP | SECURITY), 0x0108_0000, &[]),
-            no(0),
+            no(0).after(0x0108_0000, 0),
         ),
         ask(
             "nor does SeTakeOwnership come back, where the package is allowed something else",
@@ -111,7 +115,7 @@ pub fn cases() -> Vec<Case> {
                 0x8_0001,
                 &[allow(1, &u()), allow(1, &package())],
             ),
-            no(1),
+            no(1).after(0x8_0001, 1),
         ),
         ask(
             "a null DACL under confinement gives the kind's all bits",
@@ -121,12 +125,12 @@ pub fn cases() -> Vec<Case> {
         ask(
             "an empty list under confinement gives nothing",
             on(token(), 0x0200_0000, Descriptor::owned_by(&u()).dacl(&acl(&[]))),
-            no(0),
+            no(0).after(0x6_0000, 0),
         ),
         ask(
             "an inherit-only entry is skipped under confinement",
             on_list(token(), 1, &[allow(1, &u()), entry(0, 0x08, 1, &package())]),
-            no(0),
+            no(0).after(1, 0),
         ),
         ask(
             "an entry with spare bytes that names the package",
@@ -135,7 +139,7 @@ pub fn cases() -> Vec<Case> {
                 3,
                 &[long_allow(3, &u(), &deny(3, &one)), long_allow(1, &package(), &allow(2, &one))],
             ),
-            no(1),
+            no(1).after(3, 1),
         ),
         ask(
             "an exempt token is not confined",

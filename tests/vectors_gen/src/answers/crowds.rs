@@ -72,7 +72,7 @@ pub fn cases() -> Vec<Case> {
         ask(
             "64 capabilities, and the entries name the last of them, and somebody else like them",
             on_list(confined, 3, &[allow(3, &u()), allow(1, &one(63)), allow(2, &one(64))]),
-            no(1),
+            no(1).after(3, 1),
         ),
     ]
 }

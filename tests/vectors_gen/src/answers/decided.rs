@@ -26,7 +26,7 @@ pub fn cases() -> Vec<Case> {
             "staging: all is denied in both lists, and behind that the effective one has S-1-3-4",
             on(tu(), BOTH, Descriptor::owned_by(&u()))
                 .policy(make::policy(&[rule.staged(&acl(&[denied]))])),
-            no_staged(0),
+            no_staged(0).after(BOTH, BOTH),
         ),
     ]
 }

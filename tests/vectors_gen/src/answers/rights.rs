@@ -48,7 +48,7 @@ fn owners() -> Vec<Case> {
         ask(
             "owner rights: S-1-3-4 in a rule takes the two rights from the rule's result",
             owned(&u(), 0x6_0000, &[]).policy(one_rule(&[allow(0x2_0000, &own)])),
-            no(0x2_0000),
+            no(0x2_0000).after(0x6_0000, 0x6_0000),
         ),
         ask(
             "a rule's result: owner's rights are in a rule's result",
@@ -56,7 +56,7 @@ fn owners() -> Vec<Case> {
             yes(0x6_0000),
         ),
         ask("an empty list is a list: an effective DACL without entries leaves a stranger nothing",
-            owned(&w(), 1, &[allow(1, &u())]).policy(one_rule(&[])), no(0)),
+            owned(&w(), 1, &[allow(1, &u())]).policy(one_rule(&[])), no(0).after(1, 1)),
     ]
 }
 

@@ -88,7 +88,7 @@ fn full() -> Vec<Case> {
                  capability, the package and a stranger"
             ),
             rights(token, &[&crowd[capabilities - 1], &crowd[0], &of_other_key(capabilities + 2)]),
-            no(3),
+            no(3).after(0xFF, 3),
         ));
     }
     all.push(last_group_beside_capabilities());
@@ -108,38 +108,40 @@ fn last_group_beside_capabilities() -> Case {
 }
 
 /// Three who share the key are named, and then two strangers who have it.
-fn chain(reason: &str, token: Token, nths: [usize; 3], stranger: usize) -> Case {
+fn chain(token: Token, nths: [usize; 3], stranger: usize) -> Question {
     let [first, between, last] = nths.map(of_key);
     let strangers = [of_key(stranger), of_key_elsewhere()];
-    ask(reason, rights(token, &[&first, &between, &last, &strangers[0], &strangers[1]]), no(7))
+    rights(token, &[&first, &between, &last, &strangers[0], &strangers[1]])
 }
 
 fn chains() -> Vec<Case> {
     let mut all = Vec::new();
     for numbers in [[1, 16, 17], [1, 17, 33], [3, 19, 34], [5, 6, 23]] {
         let [a, b, c] = numbers;
-        all.push(chain(
+        all.push(ask(
             &format!("40 identities, and those with the numbers {a}, {b} and {c} share a key"),
-            token(&crowd(40, &numbers)),
-            [0, 1, 2],
-            3,
+            chain(token(&crowd(40, &numbers)), [0, 1, 2], 3),
+            no(7),
         ));
     }
     let ladder: Vec<usize> = (1..=257).step_by(16).collect();
-    all.push(chain(
+    all.push(ask(
         "257 identities, and every sixteenth shares a key, from the user on",
-        token(&crowd(257, &ladder)),
-        [0, 7, 16],
-        17,
+        chain(token(&crowd(257, &ladder)), [0, 7, 16], 17),
+        no(7),
     ));
     let every: Vec<usize> = (1..=21).collect();
-    all.push(chain("21 identities that share a key", token(&crowd(21, &every)), [0, 7, 20], 21));
+    all.push(ask(
+        "21 identities that share a key",
+        chain(token(&crowd(21, &every)), [0, 7, 20], 21),
+        no(7),
+    ));
     // S-1-15-2-2 has number 2.
-    all.push(chain(
+    // U has all rights in normal evaluation.
+    all.push(ask(
         "a package and 40 capabilities, and those with the numbers 1, 18 and 34 share a key",
-        confined(&crowd(40, &[1, 17, 33])),
-        [0, 1, 2],
-        3,
+        chain(confined(&crowd(40, &[1, 17, 33])), [0, 1, 2], 3),
+        no(7).after(0xFF, 7),
     ));
     all
 }

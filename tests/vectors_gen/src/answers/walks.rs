@@ -41,7 +41,7 @@ fn flags() -> Vec<Case> {
         ask(
             "staging: the flag rises for a bit that confinement withholds",
             on_list(confined(), 3, &[allow(3, &u())]).policy(rule(1, 3)),
-            no_staged(0),
+            no_staged(0).after(3, 0),
         ),
         ask(
             "staging: with the maximum all bits of the kind are compared",
@@ -66,7 +66,7 @@ fn flags() -> Vec<Case> {
         ask(
             "staging: the effective list names S-1-3-4, the staged one leaves the owner's rights",
             owned(&u(), 0x6_0000, &[]).policy(for_owners(&[allow(0x2_0000, &own)], &[])),
-            no_staged(0x2_0000),
+            no_staged(0x2_0000).after(0x6_0000, 0x6_0000),
         ),
         ask(
             "staging: the staged list names S-1-3-4, the effective one leaves the owner's rights",

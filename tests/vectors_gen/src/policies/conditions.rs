@@ -41,7 +41,11 @@ fn under(rules: &[Rule]) -> Question {
 fn narrowing() -> Vec<Case> {
     let [holds, fails] = [member(&g()), member(&w())];
     vec![
-        ask("applies_to: true, and the rule narrows", under(&[one().applies_to(&holds)]), no(1)),
+        ask(
+            "applies_to: true, and the rule narrows",
+            under(&[one().applies_to(&holds)]),
+            no(1).after(3, 3),
+        ),
         ask("applies_to: false, and it does not", under(&[one().applies_to(&fails)]), yes(3)),
         ask(
             "applies_to: true, and the rule raises the flag",
@@ -61,12 +65,12 @@ fn narrowing() -> Vec<Case> {
         ask(
             "applies_to: the first rule does not apply, the second has no applies_to",
             under(&[Rule::of(&acl(&[])).applies_to(&fails), one()]),
-            no(1),
+            no(1).after(3, 3),
         ),
         ask(
             "applies_to: the first rule applies, the second does not",
             under(&[one().applies_to(&holds), Rule::of(&acl(&[])).applies_to(&fails)]),
-            no(1),
+            no(1).after(3, 3),
         ),
         ask(
             "applies_to: the first flags and does not apply, the second applies and flags",
@@ -80,7 +84,7 @@ fn narrowing() -> Vec<Case> {
                 Rule::of(&acl(&[])).applies_to(&fails),
                 Rule::of(&acl(&[allow(2, &u())])).applies_to(&holds),
             ]),
-            no(2),
+            no(2).after(3, 3),
         ),
         ask(
             "applies_to: a null DACL, and a rule that does not apply",
@@ -95,7 +99,7 @@ fn narrowing() -> Vec<Case> {
         ask(
             "applies_to: true for everybody",
             under(&[Rule::of(&acl(&[])).applies_to(&always())]),
-            no(0),
+            no(0).after(3, 3),
         ),
     ]
 }
@@ -109,7 +113,11 @@ fn who() -> Vec<Case> {
             .policy(policy(&[one().applies_to(condition)]))
     };
     let case = |reason: &str, question: Question, applies: bool| {
-        ask(&format!("applies_to: {reason}"), question, if applies { no(1) } else { yes(3) })
+        ask(
+            &format!("applies_to: {reason}"),
+            question,
+            if applies { no(1).after(3, 3) } else { yes(3) },
+        )
     };
     let plain = |token: Token, who: &[u8]| by(token, &w(), &[], &member(who));
     let (own, me) = (owner_rights(), principal_self());
@@ -190,7 +198,7 @@ fn lengths() -> Vec<Case> {
     all.push(ask(
         "applies_to: 3,846 SIDs in a section as long as c1's file has room for",
         c1().policy(policy(&[Rule::of(&acl(&[])).applies_to(&condition)])),
-        no(0),
+        no(0).after(0x0012_0089, 0x0012_0089),
     ));
     all
 }

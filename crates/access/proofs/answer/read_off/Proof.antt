@@ -13,7 +13,10 @@ is-allowed-requires c κs = search needs
 
 returns : tie.Need-returns
 unfolding answerOf
-returns c = rw (← c .before .before .before .before .before .asked .ensures, c .before .before .is-allowed .ensures)
+returns c =
+    let allowed = c .before .before in
+    let asked = allowed .before .before .before .before .before .before .before in
+    rw (← asked .asked .ensures, allowed .is-allowed .ensures)
 
 pub read-off-spec : {M : Type 1} → statement M
 read-off-spec = tie.close (tie.spec asked-requires is-allowed-requires returns)

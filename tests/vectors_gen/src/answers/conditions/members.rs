@@ -23,6 +23,12 @@ fn case(reason: &str, question: Question, is: bool) -> Case {
     ask(&format!("membership: {reason}"), question, granted(is))
 }
 
+/// The same where normal evaluation leaves 1, and confinement asks who is a member.
+fn in_confinement(reason: &str, question: Question, is: bool) -> Case {
+    let confined = u32::from(is);
+    ask(&format!("membership: {reason}"), question, granted(is).after(1, confined))
+}
+
 /// This token asks, and an entry allows 1 to U if somebody is a member.
 fn if_member(reason: &str, token: Token, who: &[u8], is: bool) -> Case {
     case(reason, owned(token, &w(), &[callback_allow(1, &u(), &member(who))]), is)
@@ -147,11 +153,12 @@ fn confined_tokens() -> Vec<Case> {
     // Normal evaluation grants 1 by the first entry.
     let inside = |reason: &str, who: &[u8], is: bool| {
         let list = [allow(1, &u()), callback_allow(1, &package(), &member(who))];
-        case(reason, owned(token(), &w(), &list), is)
+        in_confinement(reason, owned(token(), &w(), &list), is)
     };
     let denied = |reason: &str, who: &[u8], is: bool| {
         let deny = callback_deny(1, &one, &member(who));
-        case(reason, owned(token(), &w(), &[allow(1, &u()), deny, allow(1, &package())]), is)
+        let list = [allow(1, &u()), deny, allow(1, &package())];
+        in_confinement(reason, owned(token(), &w(), &list), is)
     };
     // Confinement grants 1 by the last entry.
     let outside = |reason: &str, token: Token, who: &[u8], is: bool| {
@@ -159,9 +166,9 @@ fn confined_tokens() -> Vec<Case> {
         case(reason, owned(token, &w(), &list), is)
     };
     // The package is a group too, so that one entry is taken in both passes.
-    let both = |reason: &str, condition: &[u8], is: bool| {
+    let both = |condition: &[u8]| {
         let token = token().group(&package(), 4);
-        case(reason, owned(token, &w(), &[callback_allow(1, &package(), condition)]), is)
+        owned(token, &w(), &[callback_allow(1, &package(), condition)])
     };
     let either = asks(MEMBER_OF_ANY, &composite(&[u(), one.clone()]));
     vec![
@@ -178,10 +185,23 @@ fn confined_tokens() -> Vec<Case> {
         outside("in normal evaluation of a confined token the user", token(), &u(), true),
         outside("an exempt token: the package is no member", token().exempt(), &package(), false),
         outside("an exempt token: the user", token().exempt(), &u(), true),
-        both("one entry in both passes, if the user is a member", &member(&u()), false),
-        both("one entry in both passes, if a capability is a member", &member(&one), false),
-        both("one entry in both passes, if the package is a member", &member(&package()), true),
-        both("one entry in both passes, if user or capability is a member", &either, true),
+        in_confinement(
+            "one entry in both passes, if the user is a member",
+            both(&member(&u())),
+            false,
+        ),
+        // In normal evaluation no capability is a member, so nothing is left to confinement.
+        case("one entry in both passes, if a capability is a member", both(&member(&one)), false),
+        in_confinement(
+            "one entry in both passes, if the package is a member",
+            both(&member(&package())),
+            true,
+        ),
+        in_confinement(
+            "one entry in both passes, if user or capability is a member",
+            both(&either),
+            true,
+        ),
     ]
 }
 
@@ -197,10 +217,26 @@ fn virtual_in_confinement() -> Vec<Case> {
         owned(confined(), owner, &list).self_id(self_id)
     };
     vec![
-        case("in confinement S-1-3-4, where the package owns", inside(&package(), &[], &own), true),
-        case("in confinement S-1-3-4, where the user owns", inside(&u(), &[], &own), false),
-        case("in confinement S-1-5-10 is the package", inside(&w(), &package(), &me), true),
-        case("in confinement S-1-5-10 is the user: no member", inside(&w(), &u(), &me), false),
+        in_confinement(
+            "in confinement S-1-3-4, where the package owns",
+            inside(&package(), &[], &own),
+            true,
+        ),
+        in_confinement(
+            "in confinement S-1-3-4, where the user owns",
+            inside(&u(), &[], &own),
+            false,
+        ),
+        in_confinement(
+            "in confinement S-1-5-10 is the package",
+            inside(&w(), &package(), &me),
+            true,
+        ),
+        in_confinement(
+            "in confinement S-1-5-10 is the user: no member",
+            inside(&w(), &u(), &me),
+            false,
+        ),
         case(
             "in normal evaluation S-1-3-4, where the package owns",
             outside(&package(), &[], &own),
@@ -242,7 +278,11 @@ fn crowds() -> Vec<Case> {
         if_member("one who is none of 256 groups", crowd(), &other(255), false),
         case("all of 256 groups", every(&g()), true),
         case("255 of 256 groups, and one who is none of them", every(&other(255)), false),
-        case("in confinement the last of 64 capabilities", inside(&last), true),
-        case("in confinement one who is none of 64 capabilities", inside(&other(62)), false),
+        in_confinement("in confinement the last of 64 capabilities", inside(&last), true),
+        in_confinement(
+            "in confinement one who is none of 64 capabilities",
+            inside(&other(62)),
+            false,
+        ),
     ]
 }

@@ -85,7 +85,11 @@ fn in_rules() -> Vec<Case> {
     let rule = |entries: &[Vec<u8>]| Rule::of(&acl(entries));
     let under = |rule: Rule| owns(&[]).policy(policy(&[rule]));
     vec![
-        ask("owner callbacks: a false one in a rule", under(rule(&[silent(0)])), no(0)),
+        ask(
+            "owner callbacks: a false one in a rule",
+            under(rule(&[silent(0)])),
+            no(0).after(BOTH, BOTH),
+        ),
         ask("owner callbacks: inherit-only in a rule", under(rule(&[silent(0x08)])), yes(BOTH)),
         ask(
             "owner callbacks: a false one in the staged list raises the flag",

@@ -15,8 +15,16 @@ pub fn cases() -> Vec<Case> {
     let [holds, fails] = [member(&g()), member(&w())];
     vec![
         ask("rules: a true allow in the effective list", under(&[Rule::of(&when(&holds))]), yes(3)),
-        ask("rules: a false allow in the effective list", under(&[Rule::of(&when(&fails))]), no(1)),
-        ask("rules: a true deny in the effective list", under(&[Rule::of(&unless(&holds))]), no(1)),
+        ask(
+            "rules: a false allow in the effective list",
+            under(&[Rule::of(&when(&fails))]),
+            no(1).after(3, 3),
+        ),
+        ask(
+            "rules: a true deny in the effective list",
+            under(&[Rule::of(&unless(&holds))]),
+            no(1).after(3, 3),
+        ),
         ask(
             "rules: a false deny in the effective list",
             under(&[Rule::of(&unless(&fails))]),
@@ -45,12 +53,12 @@ pub fn cases() -> Vec<Case> {
         ask(
             "rules: conditions of the two lists that are both false raise no flag",
             under(&[Rule::of(&when(&fails)).staged(&when(&never()))]),
-            no(1),
+            no(1).after(3, 3),
         ),
         ask(
             "rules: conditions of the two lists that differ in truth raise the flag",
             under(&[Rule::of(&when(&fails)).staged(&when(&holds))]),
-            no_staged(1),
+            no_staged(1).after(3, 3),
         ),
         ask(
             "rules: confined, and the user is a member",
@@ -60,7 +68,7 @@ pub fn cases() -> Vec<Case> {
         ask(
             "rules: confined, and the package is no member",
             inside(Rule::of(&when(&member(&package())))),
-            no(1),
+            no(1).after(3, 3),
         ),
         ask(
             "rules: confined, and the package is no member in a staged list either",
@@ -70,7 +78,7 @@ pub fn cases() -> Vec<Case> {
         ask(
             "rules: applies_to is true, and the condition of the list is false",
             under(&[Rule::of(&when(&fails)).applies_to(&holds)]),
-            no(1),
+            no(1).after(3, 3),
         ),
         ask(
             "rules: applies_to is false, and the condition of the list is true",

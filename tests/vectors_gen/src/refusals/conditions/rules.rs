@@ -105,7 +105,7 @@ fn applies_to() -> Vec<Case> {
         ask(
             "an applies_to of no bytes: the rule applies to everybody",
             with_rules(&[Rule::of(&acl(&[]))]),
-            no(0),
+            no(0).after(0x0012_0089, 0x0012_0089),
         ),
         ask("an applies_to that is a condition", in_applies_to(&whole()), yes(0x0012_0089)),
         ask("9: an applies_to of a zero byte", in_applies_to(&[0]), refused(9)),
