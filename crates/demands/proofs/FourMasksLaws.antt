@@ -2,17 +2,17 @@
 -- (first-two-still, by found-first-two, which is of any rules); a bit that is asked and not granted is taken by one step (taken-once);
 -- confinement takes nothing from a token that it does not apply to, and no rule takes nothing (unconfined-keeps, no-rule-keeps).
 -- Assumes nothing.
-use Prim.Native.Nat.{ℕ, _<_, _^_}
+use Prim.Native.Nat.{ℕ, _<_, _≤_, _^_}
 use mathlib.Core.Path.{_≡_, refl, sym, ap, _∙_}
 use mathlib.Core.List.{List, []}
-use mathlib.Core.Bool.{Bool, true, false, not, and-false}
+use mathlib.Core.Bool.{Bool, true, false, and-false}
 use native.Mathlib.Omega.{arith}
-use lib.Dec.{eqb, ltb}
-use borrow.Author.Tests.{eqb-true, eqb-false, ltb-true, ltb-false}
+use lib.Dec.{eqb}
+use lib.Bits.{and-le-l, and-mask}
+use borrow.Author.Tests.{eqb-true, eqb-false}
 use Rattle.base.specs.Bits.{and, bit, Within}
 use Rattle.base.proofs.BoolLaws.{true-false}
-use Rattle.base.proofs.BitLaws.{flip-bit, zero-bit, high-bit}
-use Rattle.base.proofs.BitsLaws.{and-assoc, within-refl, within-trans, and-within-l, zero-within, and-mono, within-and}
+use Rattle.base.proofs.BitsLaws.{and-assoc, within-refl, and-within-l, zero-within, and-mono}
 use Rattle.lists.specs.Descriptor.{ownerOf}
 use Rattle.records.specs.Token.{Token}
 use Rattle.records.specs.Crowd.{crowdOf}
@@ -130,18 +130,10 @@ taken-once q _ i = narrow-taken (asked (q .kind) (q .mask)) (checked q) i (masks
 
 -- ---- a step that takes nothing
 
-within-all : (a : ℕ) → a < 2 ^ 32 → Within a everything
-unfolding Within
-within-all a l i e = go (ltb i 32) refl
-  where
-    go : (b : Bool) → ltb i 32 ≡ b → bit everything i ≡ true
-    go true t = flip-bit 0 i (omega arith) (ltb-true i 32 t) ∙ ap not (zero-bit i)
-    go false t = true-false (sym e ∙ high-bit 32 a i l (ltb-false i 32 t))
-
 cut-all : (a m : ℕ) → a < 2 ^ 32 → and a (and m everything) ≡ and a m
 cut-all a m l =
-    sym (and-assoc a m everything)
-    ∙ within-and (and a m) everything (within-trans (and a m) a everything (and-within-l a m) (within-all a l))
+    let h : and a m ≤ a = and-le-l a m in
+    sym (and-assoc a m everything) ∙ and-mask (and a m) 32 ∙ omega arith
 
 rules-unconfined : (q : Question) (t : Token) → confines (t .flags) ≡ false → byRules q t .confined ≡ byRules q t .normal
 unfolding answerOf foundOf confinementOf
