@@ -320,6 +320,9 @@ why_vector() { # digits, line, masks (nothing if refused): of the question that 
     status=$?
     [ "$status" -eq "$(status_of "$1")" ] || fail "a vector" "why: status $status for the line \`$1\`"
     head -n 5 output >five
+    # No process substitution here: where process numbers come round, bash takes the status of such a
+    # one, long over, for that of a command.
+    tail -n +6 output >behind
     # shellcheck disable=SC2086
     (echo "$1" && told $masks) | cmp -s - five || fail "a vector" "why printed \`$(cat five)\`, expected \`$1\`, $masks"
     while IFS= read -r line; do
@@ -328,7 +331,7 @@ why_vector() { # digits, line, masks (nothing if refused): of the question that 
             fail "a vector" "why printed \`$line\` behind the bit $last"
         last=$((BASH_REMATCH[1])) step=${BASH_REMATCH[2]##* }
         lost[$step]=$((${lost[$step]} | last))
-    done < <(tail -n +6 output)
+    done <behind
     # shellcheck disable=SC2086
     set -- $masks
     [ $(( ($1 & ~asked) | ($2 & ~$1) | ($3 & ~$2) | ($3 ^ $4) )) -eq 0 ] &&
