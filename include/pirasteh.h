@@ -1,6 +1,6 @@
 /* pirasteh.h: a proved access check for C and C++.
  *
- * Six functions. Each returns a status: PIRASTEH_ANSWERED, which is 0, or the number of the
+ * Eight functions. Each returns a status: PIRASTEH_ANSWERED, which is 0, or the number of the
  * refusal. pirasteh_allows, at the end, makes one yes or no of the first. Link with -lpirasteh.
  *
  * Status 0 is not "yes"
@@ -16,9 +16,9 @@
  *   Pointers    No pointer may be NULL, not even one with length 0: for an empty part pass the
  *               address of any byte of yours and length 0. uint32_t and size_t pointers are
  *               aligned as those types are; byte pointers need no alignment.
- *   Lengths     A length is at most the bytes that may be read (or, for `out`, written) from
- *               its pointer on, and at most PTRDIFF_MAX.
- *   Overlap     What a call writes (out, written, and every word it answers in: granted,
+ *   Lengths     A length is at most the bytes that may be read (or, for `out` and `trail`,
+ *               written) from its pointer on, and at most PTRDIFF_MAX.
+ *   Overlap     What a call writes (out, trail, written, and every word it answers in: granted,
  *               allowed, staged and their like) may not overlap anything else passed to that
  *               call. Inputs are only read, so two inputs may share bytes.
  *   Keep still  No other thread may write to any of this memory before the call returns.
@@ -33,7 +33,8 @@
  *
  * Where to read on
  *
- *   docs/FORMATS.md             token record, flat listing, descriptor, policy, question file
+ *   docs/FORMATS.md             token record, flat listing, descriptor, policy, question file,
+ *                               trail
  *   docs/REFUSALS.md            each refusal, and what to do about it
  *   docs/COMING-FROM-WINDOWS.md where the same bytes get another answer than on Windows
  */
@@ -45,8 +46,8 @@
 
 /* The version of this header and its library, as text and as a number that can be compared:
  * major * 10000 + minor * 100 + patch. */
-#define PIRASTEH_VERSION        "0.6.0"
-#define PIRASTEH_VERSION_NUMBER 600
+#define PIRASTEH_VERSION        "0.7.0"
+#define PIRASTEH_VERSION_NUMBER 700
 
 /* PIRASTEH_CALL: the compiler warns about NULL, and about a result that is not looked at. */
 #if defined(__has_attribute)
@@ -97,7 +98,7 @@ enum {
     PIRASTEH_DACL_TYPE        = 8,  /* the DACL: an entry's type or a condition's token is not read */
     PIRASTEH_POLICY_SHAPE     = 9,  /* the policy is misshapen */
     PIRASTEH_POLICY_TYPE      = 10, /* a rule: an entry's type or a condition's token is not read */
-    PIRASTEH_SHORT_BUFFER     = 11, /* converters only: the result is longer than the lent buffer */
+    PIRASTEH_SHORT_BUFFER     = 11, /* the trail or converted token is longer than the lent buffer */
     PIRASTEH_FILE_SHAPE       = 12  /* question files only: misshapen, or above 65,536 bytes */
 };
 
@@ -179,6 +180,17 @@ enum {
 /* A buffer of this size holds any packed record, so pirasteh_pack never gives 11. */
 #define PIRASTEH_RECORD_MAX 28021
 
+/* A buffer of this size holds any trail, so pirasteh_trail never gives 11. */
+#define PIRASTEH_TRAIL_MAX 184319
+/* A buffer of this size holds any trail of a question file, so pirasteh_trail_question never
+ * gives 11. */
+#define PIRASTEH_TRAIL_QUESTION_MAX 36864
+/* A buffer of this size holds any trail of a question whose descriptor and policy have these
+ * lengths: 9 bytes for each 16 of theirs, rounded down. Below 2 bytes of theirs it is 0. */
+#define PIRASTEH_TRAIL_BOUND(descriptor_len, policy_len)          \
+    (((descriptor_len) + (policy_len)) / 16 * 9 +                 \
+     ((descriptor_len) + (policy_len)) % 16 * 9 / 16)
+
 /* Longer ones are refused, with 6, 9 and 12. */
 #define PIRASTEH_DESCRIPTOR_MAX 65535
 #define PIRASTEH_POLICY_MAX     262144
@@ -193,7 +205,9 @@ enum {
  * policy       a policy, or nothing (length 0)
  *
  * *granted, *allowed and *staged are written in every case. Answered: the granted mask, 1 if
- * access is allowed and 0 if not, 1 if a staged list would have decided otherwise and 0 if not.
+ * access is allowed and 0 if not, 1 if a list on trial would have said otherwise and 0 if not.
+ * Lists on trial are the staged lists of the rules that apply: a staged DACL that gives another
+ * result on the bits asked, or a staged SACL that raises other events (see pirasteh_trail).
  * Refused: 0, 0 and 0. Never gives 11 or 12.
  *
  * Returning PIRASTEH_ANSWERED (0) says that the three words are an answer, and not that it is
@@ -263,6 +277,57 @@ uint32_t pirasteh_why_question(const uint8_t *file, size_t file_len,
                                uint32_t *kind, uint32_t *asked,
                                uint32_t *normal, uint32_t *confined, uint32_t *ruled,
                                uint32_t *granted, uint32_t *allowed, uint32_t *staged);
+
+/* The same question, and the audit trail that it leaves: an event for each audit entry (type 2)
+ * of the descriptor's SACL, and of the effective SACL of each rule that applies, that
+ *
+ *     is not inherit-only (flag 0x08),
+ *     names the token as a deny entry does: its user, a group that is enabled or deny-only, or
+ *     S-1-3-4 or S-1-5-10 where it stands for one of these,
+ *     has a bit of its mask, mapped as every entry's is, among the bits that were named, and
+ *     has the flag for the answer: 0x40 if access is allowed, 0x80 if it is not.
+ *
+ * The bits that were named are those of the desired mask with its generic bits mapped, and
+ * without PIRASTEH_MAXIMUM_ALLOWED: to ask for that alone leaves no event.
+ *
+ * kind to policy     as for pirasteh_check
+ * trail, trail_len   the lent buffer; PIRASTEH_TRAIL_BOUND(descriptor_len, policy_len) bytes are
+ *                    always enough
+ *
+ * A trail is one event after another, with nothing between them. An event is three numbers in
+ * sevens, each of 32 bits and in its shortest form:
+ *
+ *     source   0 for the descriptor's SACL, else the number of the rule, from 1 on; rules that
+ *              do not apply count too
+ *     entry    the number of the entry in that SACL, from 0 on; entries of other types count too
+ *     mask     the entry's mask as it is stored
+ *
+ * The events of the descriptor come first, then those of the rules, each in stored order.
+ *
+ * Answered: the trail stands in the first *written bytes of trail (none if nothing was raised),
+ * and the rest of trail is as it was. *granted, *allowed and *staged as for pirasteh_check, and
+ * here too status 0 is not yes: look at *allowed.
+ * Refused: all of trail is as it was, and *written, *granted, *allowed and *staged are 0. So it
+ * is with 11 too: if not the whole trail fits, nothing is granted. 11 comes after all other
+ * numbers. Gives what pirasteh_check gives, or 11. */
+PIRASTEH_CALL
+uint32_t pirasteh_trail(uint32_t kind, uint32_t mask,
+                        const uint8_t *token, size_t token_len,
+                        const uint8_t *self_id, size_t self_len,
+                        const uint8_t *descriptor, size_t descriptor_len,
+                        const uint8_t *policy, size_t policy_len,
+                        uint8_t *trail, size_t trail_len, size_t *written,
+                        uint32_t *granted, uint32_t *allowed, uint32_t *staged);
+
+/* The same from the bytes of a question file.
+ *
+ * trail, trail_len   the lent buffer; PIRASTEH_TRAIL_QUESTION_MAX bytes are always enough
+ *
+ * Buffer and words as above. Gives what pirasteh_question gives, or 11; status 0 is not yes. */
+PIRASTEH_CALL
+uint32_t pirasteh_trail_question(const uint8_t *file, size_t file_len,
+                                 uint8_t *trail, size_t trail_len, size_t *written,
+                                 uint32_t *granted, uint32_t *allowed, uint32_t *staged);
 
 /* Packed token record to flat listing.
  *

@@ -80,6 +80,20 @@ bytes "02 80808018 $user 00 40 $descriptor $list 00" >key
 bytes "01 80808018 $user 00 28 $descriptor 0200080000000000 00" >file
 two="0200380002000000 $(entry 23000000 $u) $(entry 03000000 $packages)"
 bytes "01 a38004 $confined 00 58 $descriptor $two 39 0101000000 $none $read $none $none $none" >lost
+# A question that two audit entries speak of, one of the descriptor's two and the rule's; the same with
+# delete asked for, which is not allowed; and one with 4,090 entries that speak, for S-1-5.
+audit() { # flags, mask as four bytes, SID
+    echo "02${1}1800 $2 $3"
+}
+audited='0100148014000000000000002000000058000000 010100000000000507000000'
+noted="0200380002000000 $(audit 80 00000010 $u) $(audit 40 01000000 $u)"
+ruled="0200200001000000 $(entry 00000080 $u)"
+seen="0200200001000000 $(audit c0 00000010 $u)"
+rest="$user 00 78 $audited $noted $both 59 0101000000 $none 20000000 $ruled 20000000 $seen $none $none"
+bytes "01 01 $rest" >opened
+bytes "01 808004 $rest" >tried
+bytes "01 01 06 010000000500 00 c4ff03 0100108014000000000000001c00000000000000 0100000000000005 0200a8fffa0f0000
+    $(yes '02c01000 ffffffff 0100000000000005' | head -n 4090 | tr -d ' \n') 00" >many
 bytes '0100000205000700' >record
 bytes '00000000 0000000000000000 010200000000000500000000 07000000 00000000' >listing
 bytes '8000' >bad
@@ -102,6 +116,7 @@ yes='granted 0x00120089 allowed yes staged no'
 no='granted 0x00020000 allowed no staged no'
 same 'c1 is the program'\''s own card' c1 "$root/crates/ask/data/c1"
 same 'lost is the program'\''s own question' lost "$root/crates/ask/data/lost"
+same 'opened is the program'\''s own question' opened "$root/crates/ask/data/opened"
 
 # ask: answers, statuses, refusals
 try 'ask: allowed'                0 "$yes" '' '$PIRASTEH ask c1'
@@ -181,6 +196,31 @@ try 'why: shut when refused'  3 "$refused7" '' '$PIRASTEH why ownerless && echo 
 try 'why: a name with a dash' 0 "$yes_why" '' '$PIRASTEH why -- -dash'
 try 'ask: a file named why'   0 "$yes" '' 'cp c1 why; $PIRASTEH ask why'
 
+# trail: the answer and the events, worked out by hand
+event() { # source, entry, mask
+    printf 'event source %d entry %d mask 0x%08x\n' "$1" "$2" "$3"
+}
+seen_trail=$(echo 'granted 0x00000001 allowed yes staged no'; event 0 1 0x1; event 1 0 0x10000000)
+tried_trail=$(echo 'granted 0x00000000 allowed no staged no'; event 0 0 0x10000000; event 1 0 0x10000000)
+try 'trail: allowed'            0 "$seen_trail" '' '$PIRASTEH trail opened'
+try 'trail: not allowed'        1 "$tried_trail" '' '$PIRASTEH trail tried'
+try 'trail: no event'           0 "$yes" '' '$PIRASTEH trail c1'
+try 'trail: no event, a no'     1 "$no" '' '$PIRASTEH trail c2'
+try 'trail: 4,090 events'       0 "$(echo 'granted 0x00000001 allowed yes staged no'
+    seq -f 'event source 0 entry %.0f mask 0xffffffff' 0 4089)" '' '$PIRASTEH trail many'
+try 'trail: refused'            3 'refused 7' '' '$PIRASTEH trail ownerless'
+try 'trail: empty'              3 'refused 12' '' '$PIRASTEH trail empty'
+try 'trail: 65,536 bytes'       0 "$yes" '' '$PIRASTEH trail q65536'
+try 'trail: 65,537 bytes'       3 'refused 12' '' '$PIRASTEH trail q65537'
+try 'trail: a pipe without end' 3 'refused 12' '' 'cat /dev/zero | $PIRASTEH trail -'
+try 'trail: standard input'     0 "$seen_trail" '' '$PIRASTEH trail - <opened'
+try 'trail: opens when allowed' 0 "$seen_trail"$'\n'open '' '$PIRASTEH trail opened && echo open'
+try 'trail: shut when it is no' 1 "$tried_trail" '' '$PIRASTEH trail tried && echo open'
+try 'trail: shut when refused'  3 'refused 7' '' '$PIRASTEH trail ownerless && echo open'
+try 'trail: a name with a dash' 0 "$yes" '' '$PIRASTEH trail -- -dash'
+try 'ask: a file named trail'   0 "$yes" '' 'cp c1 trail; $PIRASTEH ask trail'
+try 'ask: of a trail, one line' 0 'granted 0x00000001 allowed yes staged no' '' '$PIRASTEH ask opened'
+
 # input that cannot be read
 try 'ask: missing'            2 '' 'pirasteh: nowhere: No such file or directory' '$PIRASTEH ask nowhere'
 try 'ask: a folder'           2 '' 'pirasteh: folder: Is a directory' '$PIRASTEH ask folder'
@@ -188,6 +228,7 @@ try 'ask: input is a folder'  2 '' 'pirasteh: standard input: Is a directory' '$
 try 'ask: input closed'       2 '' 'pirasteh: standard input: Bad file descriptor' '$PIRASTEH ask - <&-'
 try 'ask: an empty name'      2 '' "pirasteh: '': No such file or directory" '$PIRASTEH ask ""'
 try 'why: missing'            2 '' 'pirasteh: nowhere: No such file or directory' '$PIRASTEH why nowhere'
+try 'trail: missing'          2 '' 'pirasteh: nowhere: No such file or directory' '$PIRASTEH trail nowhere'
 try 'token: missing'          2 '' 'pirasteh: nowhere: No such file or directory' '$PIRASTEH token list nowhere'
 try 'token: a folder'         2 '' 'pirasteh: folder: Is a directory' '$PIRASTEH token pack folder'
 
@@ -200,6 +241,10 @@ try 'ask: the reader is gone' 2 '' 'pirasteh: standard output: Broken pipe' \
 try 'ask: a refusal lost'     2 '' 'pirasteh: standard output: *' '$PIRASTEH ask ownerless >/dev/full'
 try 'why: output full'        2 '' 'pirasteh: standard output: No space left on device' '$PIRASTEH why lost >/dev/full'
 try 'why: a refusal lost'     2 '' 'pirasteh: standard output: Bad file descriptor' '$PIRASTEH why ownerless >&-'
+try 'trail: output full'      2 '' 'pirasteh: standard output: No space left on device' '$PIRASTEH trail opened >/dev/full'
+try 'trail: full on the way'  2 '' 'pirasteh: standard output: File too large' \
+    'trap "" XFSZ; ulimit -f 64; $PIRASTEH trail many >long'
+try 'trail: a refusal lost'   2 '' 'pirasteh: standard output: Bad file descriptor' '$PIRASTEH trail ownerless >&-'
 try 'token: output full'      2 '' 'pirasteh: standard output: No space left on device' '$PIRASTEH token list record >/dev/full'
 try 'token: output closed'    2 '' 'pirasteh: standard output: Bad file descriptor' '$PIRASTEH token pack listing >&-'
 try 'help: output full'       2 '' 'pirasteh: standard output: No space left on device' '$PIRASTEH --help >/dev/full'
@@ -220,13 +265,14 @@ try 'token: without end'      3 '' 'refused 3' 'cat /dev/zero | $PIRASTEH token 
 try 'token: nowhere to say'   3 '' '' '$PIRASTEH token list bad 2>&-'
 
 # usage
-for words in '' 'answer c1' 'ask' 'ask c1 c2' 'ask why c1' 'why' 'why c1 c2' 'why -x c1' 'token' 'token list' 'token turn record' \
+for words in '' 'answer c1' 'ask' 'ask c1 c2' 'ask why c1' 'why' 'why c1 c2' 'why -x c1' \
+    'trail' 'trail c1 c2' 'trail -x c1' 'ask trail c1' 'why trail c1' 'token' 'token list' 'token turn record' \
     'token list record listing' '-x' 'ask -x c1' '--helpless' 'token --all list record'; do
     try "usage: pirasteh $words" 2 '' 'pirasteh: *usage: pirasteh *' "\$PIRASTEH $words"
 done
 version=$(sed -n '/^\[workspace.package\]/,/^$/s/^version = "\(.*\)"$/\1/p' "$root/Cargo.toml")
 try 'version' 0 "pirasteh $version"$'\n''an unproved shell over the proved library' '' '$PIRASTEH --version'
-for words in '--help' '-h' 'ask --help' 'why -h' 'token list -h'; do
+for words in '--help' '-h' 'ask --help' 'why -h' 'trail --help' 'token list -h'; do
     try "help: $words" 0 '0 0 0' '' "\$PIRASTEH $words >text; for word in 'an unproved shell over the proved library' 'answered, and not allowed' '  12  '; do grep -qF -- \"\$word\" text; echo \$?; done | paste -sd' '"
 done
 
@@ -252,6 +298,15 @@ if run_here ask && run_here token; then
     try 'program ask: why, full'       0 '' 'standard output: No space left on device' '$ASK why c1 >/dev/full'
     try 'program ask: a file why'      0 "$no" '' 'cp c2 why; $ASK why'
     try 'program ask: why, usage'      0 '' 'usage: ask *' '$ASK why c1 c2'
+    try 'program ask: trail'           0 "$seen_trail" '' '$ASK trail opened'
+    try 'program ask: trail -'         0 "$tried_trail" '' '$ASK trail - <tried'
+    try 'program ask: trail, none'     0 "$no" '' '$ASK trail c2'
+    try 'program ask: trail, refused'  0 'refused 7' '' '$ASK trail ownerless'
+    try 'program ask: trail, missing'  0 '' 'nowhere: No such file or directory' '$ASK trail nowhere'
+    try 'program ask: trail, full'     0 '' 'standard output: No space left on device' '$ASK trail opened >/dev/full'
+    try 'program ask: a file trail'    0 "$no" '' 'cp c2 trail; $ASK trail'
+    try 'program ask: trail, usage'    0 '' 'usage: ask *' '$ASK trail c1 c2'
+    try 'program ask: another word'    0 '' 'usage: ask *' '$ASK answer c1'
     try 'program token: list'          0 '' '' '$TOKEN list record >made'
     same 'program token: list' made listing
     try 'program token: pack -'        0 '' '' '$TOKEN pack - <listing >made'
@@ -344,6 +399,34 @@ why_vector() { # digits, line, masks (nothing if refused): of the question that 
     fi
 }
 
+# The events of a trail, from its digits: of each the three numbers in sevens.
+events_of() { # digits
+    local digits byte value=0 shift=0 numbers=()
+    [ -n "$1" ] || return 0
+    while IFS= read -r digits; do
+        byte=$((16#$digits))
+        value=$((value | (byte & 127) << shift)) shift=$((shift + 7))
+        [ "$byte" -ge 128 ] || { numbers+=("$value") && value=0 shift=0; }
+    done <<<"$(fold -w 2 <<<"$1")"
+    printf 'event source %d entry %d mask 0x%08x\n' "${numbers[@]}"
+}
+
+# The line, and the events of the trail and no others; a refused question has none.
+trail_vector() { # line, trail (nothing if it is empty): of the question that was asked last
+    local status
+    [[ $1 != refused* || -z $2 ]] || fail "a vector" "\`$1\` with the trail \`$2\`"
+    "$PIRASTEH" trail question >output 2>stderr
+    status=$?
+    [ "$status" -eq "$(status_of "$1")" ] || fail "a vector" "trail: status $status for the line \`$1\`"
+    (echo "$1" && events_of "$2") | cmp -s - output ||
+        fail "a vector" "trail printed \`$(cat output)\`, expected \`$1\` and the events of \`$2\`"
+    if [ $programs = yes ]; then
+        "$ASK" trail question >output-too 2>stderr-too
+        cmp -s output output-too && cmp -s stderr stderr-too ||
+            fail "a vector" "pirasteh trail and ask trail print otherwise for the line \`$1\`, trail \`$2\`"
+    fi
+}
+
 token_vector() { # list or pack, input, expected bytes or a refusal number
     local status
     bytes "$2" >input
@@ -370,6 +453,7 @@ case_ends() {
     if [ -n "${field[ask]+.}" ]; then
         ask_vector "${field[ask]}" "${field[line]}"
         why_vector "${field[ask]}" "${field[line]}" "${field[masks]-}"
+        trail_vector "${field[line]}" "${field[trail]-}"
     elif [ -n "${field[refused]+.}" ]; then
         if [ -n "${field[record]+.}" ]; then
             token_vector list "${field[record]}" "refused ${field[refused]}"

@@ -54,6 +54,10 @@ build_c ask.c ask-c-refused -DASKED=0x00400000u
 build_c why.c why-c
 build_c why.c why-c-yes -DASKED=PIRASTEH_FILE_READ_DATA
 build_c why.c why-c-refused -DASKED=0x00400000u
+build_c trail.c trail-c
+build_c trail.c trail-c-no -DASKED=PIRASTEH_DELETE
+build_c trail.c trail-c-full -DROOM=10
+build_c trail.c trail-c-short -DROOM=9
 build_c token.c token-c
 check_c 'examples/c/ask.c' ask-c 0 "$expected"
 check_c 'examples/c/ask.c, not allowed' ask-c-no 1 'granted 0x00000000 allowed no staged no'
@@ -69,12 +73,23 @@ lost at confinement 0x00000000
 lost at the policy 0x00000000
 granted 0x00000001'
 check_c 'examples/c/why.c, refused' why-c-refused 3 'refused 2'
+opened='granted 0x00000001 allowed yes staged no
+event source 0 entry 1 mask 0x00000001
+event source 1 entry 0 mask 0x10000000'
+check_c 'examples/c/trail.c' trail-c 0 "$opened"
+check_c 'examples/c/trail.c, not allowed' trail-c-no 1 'granted 0x00000000 allowed no staged no
+event source 0 entry 0 mask 0x10000000
+event source 1 entry 0 mask 0x10000000'
+check_c 'examples/c/trail.c, exact room' trail-c-full 0 "$opened"
+check_c 'examples/c/trail.c, a byte too little' trail-c-short 3 'refused 11'
 check_c 'examples/c/token.c' token-c 0 'record 24 bytes, listing 88 bytes, back 24 bytes: the same'
 full_c ask-c
 full_c why-c
+full_c trail-c
 full_c token-c
 
 cargo build --quiet --release --offline --package ask
 check 'examples/rust' "$CARGO_TARGET_DIR/release/ask" 0 "$expected
-lost 0x00010000 delete: normal evaluation"
-echo "examples: 4 programs, 0 failures"
+lost 0x00010000 delete: normal evaluation
+event source 0 entry 0 mask 0x10000000"
+echo "examples: 5 programs, 0 failures"

@@ -43,6 +43,8 @@ tree/share/man/man3/pirasteh_check.3
 tree/share/man/man3/pirasteh_list.3
 tree/share/man/man3/pirasteh_pack.3
 tree/share/man/man3/pirasteh_question.3
+tree/share/man/man3/pirasteh_trail.3
+tree/share/man/man3/pirasteh_trail_question.3
 tree/share/man/man3/pirasteh_why.3
 tree/share/man/man3/pirasteh_why_question.3
 FILES
@@ -53,7 +55,7 @@ expect 'what scripts/install said' "$(find "$PWD/tree" -type f | sort)" "$(sort 
 answer='granted 0x00120089 allowed yes staged no'
 if command -v pkg-config >/dev/null; then
     export PKG_CONFIG_PATH=$PWD/tree/lib/pkgconfig
-    for name in ask why token; do
+    for name in ask why trail token; do
         cp "$root/examples/c/$name.c" .
         # shellcheck disable=SC2046
         "${CC:-cc}" "$name.c" $(pkg-config --cflags --libs pirasteh) -o "$name"
@@ -61,6 +63,7 @@ if command -v pkg-config >/dev/null; then
     done
     expect 'what ask.c prints' "$answer" "$(./ask)"
     expect 'what why.c prints last' 'granted 0x00000001' "$(./why | tail -n 1)"
+    expect 'what trail.c prints last' 'event source 1 entry 0 mask 0x10000000' "$(./trail | tail -n 1)"
     version=$(pkg-config --modversion pirasteh)
     expect 'the version of the command' "pirasteh $version" "$(tree/bin/pirasteh --version | head -n 1)"
     expect 'the version of the Rust parts' "$version" \
@@ -80,6 +83,8 @@ fi
 expect 'the installed command' "$answer" "$(tree/bin/pirasteh ask "$root/crates/ask/data/c1")"
 expect 'the installed command, why' 'lost 0x00010000 delete: normal evaluation' \
     "$(tree/bin/pirasteh why "$root/crates/ask/data/lost" | tail -n 1)"
+expect 'the installed command, trail' 'event source 1 entry 0 mask 0x10000000' \
+    "$(tree/bin/pirasteh trail "$root/crates/ask/data/opened" | tail -n 1)"
 
 # The man pages: no complaint of the formatter, every name found.
 if command -v groff >/dev/null; then
@@ -92,7 +97,7 @@ else
 fi
 # Every function of the header has its page, and stands on the one that all lead to.
 names=$(grep -oE '^(PIRASTEH_INLINE int|uint32_t) pirasteh_[a-z_]+' "$root/include/pirasteh.h" | grep -o '[^ ]*$' | sort -u)
-expect 'functions of the header' 7 "$(wc -w <<<"$names")"
+expect 'functions of the header' 9 "$(wc -w <<<"$names")"
 for name in $names; do
     expect "a page for $name" 1 "$(ls "tree/share/man/man3/$name.3" | wc -l)"
     expect "$name in pirasteh(3)" 1 "$(grep -c "^\.BI \".* $name(" tree/share/man/man3/pirasteh.3)"
@@ -150,7 +155,7 @@ expect 'scripts/install --prefix=x' '2 usage: install PREFIX' "$(called install 
 expect 'scripts/build -h' '0 usage: build [OUT-DIR]' "$(called build -h)"
 expect 'scripts/build with two words' '2 usage: build [OUT-DIR]' "$(called build a b)"
 expect 'scripts/archive --help' '0 usage: archive OUT-DIR' "$(called archive --help)"
-groups='table|small|hard|policy|long|spare|owner|conditions|why|conversions'
+groups='table|small|hard|policy|long|spare|owner|conditions|why|trail|conversions'
 expect 'scripts/bench --fast' "2 usage: bench [$groups].." "$(called bench --fast)"
 expect 'scripts/bench of a group that is none' \
     "2 bench: there is no group of rows \`fast\`; there are ${groups//|/, }" "$(called bench fast)"

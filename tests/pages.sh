@@ -168,6 +168,7 @@ try_bytes 'A question file' crates/ask/data/c1
 try_bytes 'Its token record' crates/token/data/TU
 try_bytes 'Its flat listing' crates/token/stdout
 try_bytes 'A question that loses a right at each step' crates/ask/data/lost
+try_bytes 'A question that leaves a trail' crates/ask/data/opened
 try_vectors
 try_cases
 try_definitions

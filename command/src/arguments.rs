@@ -10,6 +10,8 @@ pub enum Task {
     Ask(Input),
     /// The same, and tell where the rights went.
     Why(Input),
+    /// Answer the question, and tell the events of its audit trail.
+    Trail(Input),
     /// Turn a packed token record into its flat listing.
     List(Input),
     /// Turn a flat listing into its packed token record.
@@ -74,6 +76,7 @@ fn task(mut operands: Operands) -> Result<Task, Wrong> {
     match subcommand.as_bytes() {
         b"ask" => Ok(Task::Ask(input("ask", operands)?)),
         b"why" => Ok(Task::Why(input("why", operands)?)),
+        b"trail" => Ok(Task::Trail(input("trail", operands)?)),
         b"token" => conversion(operands),
         _ => Err(Wrong::Subcommand(subcommand)),
     }
@@ -116,7 +119,10 @@ mod tests {
     fn subcommands() {
         assert_eq!(line("ask c1"), Ok(Task::Ask(file("c1"))));
         assert_eq!(line("why c1"), Ok(Task::Why(file("c1"))));
+        assert_eq!(line("trail c1"), Ok(Task::Trail(file("c1"))));
         assert_eq!(line("ask why"), Ok(Task::Ask(file("why"))));
+        assert_eq!(line("ask trail"), Ok(Task::Ask(file("trail"))));
+        assert_eq!(line("trail why"), Ok(Task::Trail(file("why"))));
         assert_eq!(line("token list TU"), Ok(Task::List(file("TU"))));
         assert_eq!(line("token pack TU"), Ok(Task::Pack(file("TU"))));
     }
@@ -125,6 +131,7 @@ mod tests {
     fn dash_is_standard_input() {
         assert_eq!(line("ask -"), Ok(Task::Ask(Input::Standard)));
         assert_eq!(line("why -"), Ok(Task::Why(Input::Standard)));
+        assert_eq!(line("trail -"), Ok(Task::Trail(Input::Standard)));
         assert_eq!(line("token list -"), Ok(Task::List(Input::Standard)));
         assert_eq!(line("token pack -- -"), Ok(Task::Pack(Input::Standard)));
         assert_eq!(line("ask ./-"), Ok(Task::Ask(file("./-"))));
@@ -132,7 +139,9 @@ mod tests {
 
     #[test]
     fn help_and_version() {
-        for words in ["--help", "-h", "ask --help", "why -h", "token -h", "token list c1 --help"] {
+        for words in
+            ["--help", "-h", "ask --help", "why -h", "trail -h", "token -h", "token list c1 --help"]
+        {
             assert_eq!(line(words), Ok(Task::Help), "{words}");
         }
         assert_eq!(line("-h -x"), Ok(Task::Help));
@@ -147,6 +156,7 @@ mod tests {
         assert_eq!(line("ask -- --"), Ok(Task::Ask(file("--"))));
         assert_eq!(line("-- ask -x"), Ok(Task::Ask(file("-x"))));
         assert_eq!(line("why -- -x"), Ok(Task::Why(file("-x"))));
+        assert_eq!(line("trail -- -x"), Ok(Task::Trail(file("-x"))));
         assert_eq!(line("token -- list -x"), Ok(Task::List(file("-x"))));
         assert_eq!(line("-- --help"), Err(Wrong::Subcommand("--help".into())));
     }
@@ -158,6 +168,7 @@ mod tests {
         assert_eq!(line("ask"), Err(Wrong::NoFile("ask")));
         assert_eq!(line("ask --"), Err(Wrong::NoFile("ask")));
         assert_eq!(line("why"), Err(Wrong::NoFile("why")));
+        assert_eq!(line("trail"), Err(Wrong::NoFile("trail")));
         assert_eq!(line("token"), Err(Wrong::NoConversion));
         assert_eq!(line("token list"), Err(Wrong::NoFile("token list")));
         assert_eq!(line("token pack"), Err(Wrong::NoFile("token pack")));
@@ -181,6 +192,8 @@ mod tests {
         assert_eq!(line("ask - -"), Err(Wrong::Surplus("-".into())));
         assert_eq!(line("ask why c1"), Err(Wrong::Surplus("c1".into())));
         assert_eq!(line("why c1 c2"), Err(Wrong::Surplus("c2".into())));
+        assert_eq!(line("trail c1 c2"), Err(Wrong::Surplus("c2".into())));
+        assert_eq!(line("ask trail c1"), Err(Wrong::Surplus("c1".into())));
         assert_eq!(line("token list TU TU TU"), Err(Wrong::Surplus("TU".into())));
     }
 

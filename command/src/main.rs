@@ -2,6 +2,7 @@
 //!
 //!     pirasteh ask FILE|-
 //!     pirasteh why FILE|-
+//!     pirasteh trail FILE|-
 //!     pirasteh token list FILE|-
 //!     pirasteh token pack FILE|-
 //!

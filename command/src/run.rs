@@ -2,7 +2,8 @@
 
 use crate::arguments::{self, Input, Task};
 use crate::{stream, text};
-use pirasteh::{list_vec, pack_vec, question, why_question, Error, Listing, Token};
+use pirasteh::{list_vec, pack_vec, question, trail_question, why_question};
+use pirasteh::{Error, Listing, Token, TRAIL_QUESTION_MAX};
 use std::ffi::{c_int, OsStr, OsString};
 use std::io;
 use std::path::Path;
@@ -21,6 +22,7 @@ pub fn run(words: Vec<OsString>) -> c_int {
     match arguments::read(words) {
         Ok(Task::Ask(input)) => with(&input, ask),
         Ok(Task::Why(input)) => with(&input, why),
+        Ok(Task::Trail(input)) => with(&input, trail),
         Ok(Task::List(input)) => with(&input, |bytes| convert(list_vec(Token(bytes)))),
         Ok(Task::Pack(input)) => with(&input, |bytes| convert(pack_vec(Listing(bytes)))),
         Ok(Task::Help) => print(text::help().as_bytes(), YES),
@@ -56,6 +58,19 @@ fn why(file: &[u8]) -> c_int {
     match why_question(file) {
         Ok(why) => print(text::why(&why).as_bytes(), status(why.allowed)),
         Err(error) => print((refusal(error) + text::NO_MASKS).as_bytes(), REFUSED),
+    }
+}
+
+/// The answer, and a line for each event. There is room for every trail, so 11 is never given.
+fn trail(file: &[u8]) -> c_int {
+    let mut room = vec![0; TRAIL_QUESTION_MAX];
+    match trail_question(file, &mut room) {
+        Ok(traced) => match text::trail(traced.answer, &room[..traced.length]) {
+            Ok(lines) => print(lines.as_bytes(), status(traced.answer.allowed)),
+            // What the library writes is a trail; should it not be, no part of it is printed.
+            Err(no_trail) => fail(OsStr::new("the library"), &io::Error::other(no_trail)),
+        },
+        Err(error) => print(refusal(error).as_bytes(), REFUSED),
     }
 }
 

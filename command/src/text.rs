@@ -1,13 +1,13 @@
 //! What the program says, but for plain answers.
 
 use crate::arguments::Wrong;
-use pirasteh::{Error, Why};
+use pirasteh::{events, Answer, Error, NoTrail, Why};
 use std::ffi::OsStr;
 use std::fmt::Write;
 use std::io;
 use std::os::unix::ffi::OsStrExt;
 
-const USAGE: &str = "usage: pirasteh ask FILE|- | pirasteh why FILE|- | \
+const USAGE: &str = "usage: pirasteh ask FILE|- | pirasteh why FILE|- | pirasteh trail FILE|- | \
                      pirasteh token list FILE|- | pirasteh token pack FILE|- | pirasteh --help\n";
 
 const HELP: &str = "\
@@ -20,6 +20,10 @@ pirasteh: a Windows-style access check; an unproved shell over the proved librar
                             are granted; then for each right that was asked for and is not
                             granted the step that took it, with a line like
                             'lost 0x00000002 write data: confinement'.
+  pirasteh trail FILE       The line of 'ask', then the audit trail: for each audit entry
+                            that speaks of this question a line like
+                            'event source 0 entry 3 mask 0x00010000'. Source 0 is the
+                            descriptor and 1 the first rule; entries count from 0.
   pirasteh token list FILE  Turns a packed token record into its flat listing.
   pirasteh token pack FILE  Turns a flat listing into its packed token record. Both write
                             bytes on standard output; a refusal is 'refused 3' on standard
@@ -58,6 +62,16 @@ pub fn why(why: &Why) -> String {
     text
 }
 
+/// The lines of an answered question: the answer, and the events of its trail.
+pub fn trail(answer: Answer, trail: &[u8]) -> Result<String, NoTrail> {
+    let mut text = format!("{answer}\n");
+    for event in events(trail) {
+        // Writing to a string does not fail.
+        let _ = writeln!(text, "{}", event?);
+    }
+    Ok(text)
+}
+
 /// What `--help` prints.
 pub fn help() -> String {
     let mut text = String::from(HELP);
@@ -78,7 +92,7 @@ pub fn version() -> String {
 /// One line that says what is wrong with the command line, and one for its use.
 pub fn wrong(wrong: &Wrong) -> Vec<u8> {
     let (what, word) = match wrong {
-        Wrong::NoSubcommand => ("a subcommand is missing: ask, why or token", None),
+        Wrong::NoSubcommand => ("a subcommand is missing: ask, why, trail or token", None),
         Wrong::NoConversion => ("token: a word is missing: list or pack", None),
         Wrong::NoFile(after) => return usage(format!("{after}: FILE is missing").as_bytes()),
         Wrong::Subcommand(word) => ("unknown subcommand: ", Some(word)),
@@ -119,7 +133,8 @@ fn shown(word: &OsStr) -> Vec<u8> {
 
 #[cfg(test)]
 mod tests {
-    use super::{failure, help, version, why, wrong, Why, Wrong, NO_MASKS};
+    use super::{failure, help, trail, version, why, wrong};
+    use super::{Answer, NoTrail, Why, Wrong, NO_MASKS};
     use pirasteh::Kind;
     use std::ffi::OsStr;
     use std::io;
@@ -154,6 +169,18 @@ mod tests {
         ];
         assert_eq!(lost, expected);
         assert!(text.ends_with('\n'));
+    }
+
+    #[test]
+    fn every_event_has_a_line() {
+        let answer = Answer { granted: 1, allowed: true, staged: true };
+        let line = "granted 0x00000001 allowed yes staged yes\n";
+        assert_eq!(trail(answer, &[]), Ok(line.to_owned()));
+        let events = "event source 0 entry 1 mask 0x00000001\n\
+                      event source 256 entry 0 mask 0x10000000\n";
+        let bytes = [0, 1, 1, 0x80, 2, 0, 0x80, 0x80, 0x80, 0x80, 1];
+        assert_eq!(trail(answer, &bytes), Ok(format!("{line}{events}")));
+        assert_eq!(trail(answer, &bytes[..10]), Err(NoTrail::CutShort));
     }
 
     #[test]

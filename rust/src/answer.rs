@@ -17,7 +17,8 @@ pub struct Answer {
     /// Whether access is allowed: every named bit is granted, and at least one bit is if
     /// [`MAXIMUM_ALLOWED`](crate::mask::MAXIMUM_ALLOWED) was asked for.
     pub allowed: bool,
-    /// Whether the staged list of some rule would have decided otherwise on the asked bits. It
+    /// Whether a staged list of some rule that applies would have said otherwise: a staged DACL,
+    /// on the asked bits, or a staged SACL, by other events in the [`trail`](crate::trail()). It
     /// changes nothing in the other two.
     pub staged: bool,
 }

@@ -41,12 +41,13 @@ pub enum Error {
     PolicyShape,
     /// 10: the same in a DACL of some rule of the policy, or in its `applies_to`.
     PolicyType,
-    /// 11: the converted result is longer than the lent buffer. [`list`](crate::list) and
-    /// [`pack`](crate::pack) only.
+    /// 11: the converted result, or the trail, is longer than the lent buffer.
+    /// [`list`](crate::list), [`pack`](crate::pack), [`trail`](crate::trail()) and
+    /// [`trail_question`](crate::trail_question) only. It comes last.
     ShortBuffer,
     /// 12: the question file is misshapen or longer than
-    /// [`QUESTION_MAX`](crate::QUESTION_MAX). [`question`](crate::question) and
-    /// [`why_question`](crate::why_question) only.
+    /// [`QUESTION_MAX`](crate::QUESTION_MAX). [`question`](crate::question),
+    /// [`why_question`](crate::why_question) and [`trail_question`](crate::trail_question) only.
     FileShape,
     /// A number that this wrapper has no name for. A library newer than the wrapper may give it.
     Unknown(u32),
@@ -134,7 +135,7 @@ impl Error {
                 "a rule of the policy has an entry of a type, or a condition with a token, \
                  that is not read"
             }
-            Error::ShortBuffer => "the buffer is too short for the converted token",
+            Error::ShortBuffer => "the buffer is too short for the trail or the converted token",
             Error::FileShape => "the question file is misshapen or longer than 65,536 bytes",
             Error::Unknown(_) => "the library gave a number that this wrapper does not know",
         }

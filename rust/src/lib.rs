@@ -1,8 +1,9 @@
 //! A proved Windows-style access check, for Rust.
 //!
 //! One question is: may this user (a token) do this (a mask of rights) to this file or registry
-//! key (its security descriptor)? [`check`] answers it, and [`why()`] tells at which step a right
-//! was lost that is not granted.
+//! key (its security descriptor)? [`check`] answers it, [`why()`] tells at which step a right was
+//! lost that is not granted, and [`trail()`] writes down the events that the object's audit entries
+//! ask for.
 //!
 //! ```
 //! use pirasteh::{check, mask, why, Descriptor, Kind, Policy, Question, SelfId, Token};
@@ -46,7 +47,7 @@
 //! [`Answer::allowed`], or use [`allows`], which is true for yes and for nothing else.
 //! [`Answer::granted`] does not tell: it has the asked bits that are granted, also where others
 //! are missing. `Err` is a refusal: some part is misshapen or not understood, nothing is granted,
-//! and the [`Error`] says which part. So it is with [`Why`] too.
+//! and the [`Error`] says which part. So it is with [`Why`] and [`Traced`] too.
 //!
 //! # Where the bytes come from
 //!
@@ -64,7 +65,8 @@
 //! machine, among others.
 //!
 //! This wrapper is not proved. It hands pointers and lengths over, gives names to numbers and bits,
-//! and tells from the library's masks which step took a bit. It decides nothing.
+//! tells from the library's masks which step took a bit, and reads the events of a trail. It decides
+//! nothing.
 //!
 //! # What a call takes
 //!
@@ -95,6 +97,7 @@ pub mod privilege;
 pub mod raw;
 pub mod rights;
 pub mod token_flag;
+mod trail;
 mod why;
 
 pub use answer::Answer;
@@ -103,12 +106,18 @@ pub use convert::{list, list_vec, pack, pack_vec};
 pub use error::Error;
 pub use kind::Kind;
 pub use parts::{Descriptor, Listing, Policy, SelfId, Token};
+pub use trail::{events, trail, trail_bound, trail_question, Event, Events, NoTrail, Traced};
 pub use why::{why, why_question, Lost, Step, Why};
 
 /// A buffer of this size holds any flat listing, so that [`list`] never finds it too short.
 pub const LISTING_MAX: usize = 22_940;
 /// A buffer of this size holds any packed record, so that [`pack`] never finds it too short.
 pub const RECORD_MAX: usize = 28_021;
+/// A buffer of this size holds any trail, so that [`trail()`] never finds it too short.
+pub const TRAIL_MAX: usize = 184_319;
+/// A buffer of this size holds any trail of a question file, so that [`trail_question`] never finds
+/// it too short.
+pub const TRAIL_QUESTION_MAX: usize = 36_864;
 /// A longer descriptor is refused, with [`Error::DescriptorShape`].
 pub const DESCRIPTOR_MAX: usize = 65_535;
 /// A longer policy is refused, with [`Error::PolicyShape`].

@@ -99,6 +99,49 @@ extern "C" {
         staged: *mut u32,
     ) -> u32;
 
+    /// One question, by its parts, with the audit trail that it leaves. `written` and the three
+    /// result words are written in every case, `trail` only if the whole trail fits.
+    ///
+    /// # Safety
+    ///
+    /// As for [`pirasteh_check`]; `trail` is good for `trail_len` bytes of writing and overlaps
+    /// nothing else, and `written` is good for one aligned `usize`.
+    pub fn pirasteh_trail(
+        kind: u32,
+        mask: u32,
+        token: *const u8,
+        token_len: usize,
+        self_id: *const u8,
+        self_len: usize,
+        descriptor: *const u8,
+        descriptor_len: usize,
+        policy: *const u8,
+        policy_len: usize,
+        trail: *mut u8,
+        trail_len: usize,
+        written: *mut usize,
+        granted: *mut u32,
+        allowed: *mut u32,
+        staged: *mut u32,
+    ) -> u32;
+
+    /// One question, by the bytes of a question file, with the audit trail that it leaves. Written
+    /// is as by [`pirasteh_trail`].
+    ///
+    /// # Safety
+    ///
+    /// As for [`pirasteh_trail`].
+    pub fn pirasteh_trail_question(
+        file: *const u8,
+        file_len: usize,
+        trail: *mut u8,
+        trail_len: usize,
+        written: *mut usize,
+        granted: *mut u32,
+        allowed: *mut u32,
+        staged: *mut u32,
+    ) -> u32;
+
     /// Packed token record to flat listing. `written` is written in every case, `out` only if the
     /// whole listing fits.
     ///

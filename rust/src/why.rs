@@ -52,7 +52,7 @@ pub struct Why {
     pub granted: u32,
     /// Whether access is allowed, as [`Answer::allowed`] has it.
     pub allowed: bool,
-    /// Whether a staged list would have decided otherwise, as [`Answer::staged`] has it.
+    /// Whether a staged list would have said otherwise, as [`Answer::staged`] has it.
     pub staged: bool,
 }
 

@@ -35,6 +35,8 @@ fn ours() -> BTreeMap<String, u64> {
         ("KEY".to_owned(), u64::from(Kind::Key.number())),
         ("LISTING_MAX".to_owned(), number(pirasteh::LISTING_MAX)),
         ("RECORD_MAX".to_owned(), number(pirasteh::RECORD_MAX)),
+        ("TRAIL_MAX".to_owned(), number(pirasteh::TRAIL_MAX)),
+        ("TRAIL_QUESTION_MAX".to_owned(), number(pirasteh::TRAIL_QUESTION_MAX)),
         ("DESCRIPTOR_MAX".to_owned(), number(pirasteh::DESCRIPTOR_MAX)),
         ("POLICY_MAX".to_owned(), number(pirasteh::POLICY_MAX)),
         ("QUESTION_MAX".to_owned(), number(pirasteh::QUESTION_MAX)),
@@ -107,7 +109,7 @@ fn functions_take_the_same() {
     let ours: BTreeMap<_, _> =
         declared(RAW, "pub fn ").iter().map(|function| taken(function, str::to_owned)).collect();
     assert_eq!(ours, theirs);
-    assert_eq!(ours.len(), 6);
+    assert_eq!(ours.len(), 8);
 }
 
 /// The names of single rights are the words of their constants, with abbreviations written out.

@@ -35,6 +35,8 @@ void ignore(void)
     STATUS pirasteh_question(b, n, w, w, w);                                /* unused-result */
     STATUS pirasteh_why(1, 2, b, n, b, n, b, n, b, n, w, w, w, w, w, w, w); /* unused-result */
     STATUS pirasteh_why_question(b, n, w, w, w, w, w, w, w, w);             /* unused-result */
+    STATUS pirasteh_trail(1, 2, b, n, b, n, b, n, b, n, o, n, l, w, w, w);  /* unused-result */
+    STATUS pirasteh_trail_question(b, n, o, n, l, w, w, w);                 /* unused-result */
     STATUS pirasteh_list(b, n, o, n, l);                                    /* unused-result */
     STATUS pirasteh_pack(b, n, o, n, l);                                    /* unused-result */
     YES pirasteh_allows(1, 2, b, n, b, n, b, n, b, n);                      /* unused-result */
@@ -73,6 +75,21 @@ void null(void)
     status = pirasteh_why_question(b, n, w, w, w, w, w, NO_WORD, w, w);              /* nonnull */
     status = pirasteh_why_question(b, n, w, w, w, w, w, w, NO_WORD, w);              /* nonnull */
     status = pirasteh_why_question(b, n, w, w, w, w, w, w, w, NO_WORD);              /* nonnull */
+    status = pirasteh_trail(1, 2, NO_BYTES, n, b, n, b, n, b, n, o, n, l, w, w, w);  /* nonnull */
+    status = pirasteh_trail(1, 2, b, n, NO_BYTES, 0, b, n, b, n, o, n, l, w, w, w);  /* nonnull */
+    status = pirasteh_trail(1, 2, b, n, b, n, NO_BYTES, n, b, n, o, n, l, w, w, w);  /* nonnull */
+    status = pirasteh_trail(1, 2, b, n, b, n, b, n, NO_BYTES, 0, o, n, l, w, w, w);  /* nonnull */
+    status = pirasteh_trail(1, 2, b, n, b, n, b, n, b, n, NO_ROOM, n, l, w, w, w);   /* nonnull */
+    status = pirasteh_trail(1, 2, b, n, b, n, b, n, b, n, o, n, NO_LENGTH, w, w, w); /* nonnull */
+    status = pirasteh_trail(1, 2, b, n, b, n, b, n, b, n, o, n, l, NO_WORD, w, w);   /* nonnull */
+    status = pirasteh_trail(1, 2, b, n, b, n, b, n, b, n, o, n, l, w, NO_WORD, w);   /* nonnull */
+    status = pirasteh_trail(1, 2, b, n, b, n, b, n, b, n, o, n, l, w, w, NO_WORD);   /* nonnull */
+    status = pirasteh_trail_question(NO_BYTES, n, o, n, l, w, w, w);                 /* nonnull */
+    status = pirasteh_trail_question(b, n, NO_ROOM, n, l, w, w, w);                  /* nonnull */
+    status = pirasteh_trail_question(b, n, o, n, NO_LENGTH, w, w, w);                /* nonnull */
+    status = pirasteh_trail_question(b, n, o, n, l, NO_WORD, w, w);                  /* nonnull */
+    status = pirasteh_trail_question(b, n, o, n, l, w, NO_WORD, w);                  /* nonnull */
+    status = pirasteh_trail_question(b, n, o, n, l, w, w, NO_WORD);                  /* nonnull */
     status = pirasteh_list(NO_BYTES, n, o, n, l);                                    /* nonnull */
     status = pirasteh_list(b, n, NO_ROOM, n, l);                                     /* nonnull */
     status = pirasteh_list(b, n, o, n, NO_LENGTH);                                   /* nonnull */

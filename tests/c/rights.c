@@ -106,9 +106,27 @@ IS(SHORT_BUFFER, 11);
 IS(FILE_SHAPE, 12);
 IS(LISTING_MAX, 22940);
 IS(RECORD_MAX, 28021);
+IS(TRAIL_MAX, 184319);
+IS(TRAIL_QUESTION_MAX, 36864);
 IS(DESCRIPTOR_MAX, 65535);
 IS(POLICY_MAX, 262144);
 IS(QUESTION_MAX, 65536);
+
+/* Nine bytes of trail for each 16 of descriptor and policy, rounded down. */
+#define BOUNDS(name, descriptor, policy, number)                                                    \
+    typedef char name##_bounds[PIRASTEH_TRAIL_BOUND(descriptor, policy) == (number) ? 1 : -1]
+
+BOUNDS(nothing, 0, 0, 0);
+BOUNDS(two_bytes, 1, 1, 1);
+BOUNDS(fifteen, 7, 8, 8);
+BOUNDS(sixteen, 7, 9, 9);
+BOUNDS(a_sum, 100 + 20, 89, 117);
+BOUNDS(all, PIRASTEH_DESCRIPTOR_MAX, PIRASTEH_POLICY_MAX, PIRASTEH_TRAIL_MAX);
+BOUNDS(file, PIRASTEH_QUESTION_MAX, 0, PIRASTEH_TRAIL_QUESTION_MAX);
+
+/* Two lengths may be as large as lengths get. */
+#define MOST (SIZE_MAX / 2)
+BOUNDS(most, MOST, MOST, SIZE_MAX / 16 * 9 + 7);
 
 /* A mask is 32 bits wide and has no sign. */
 typedef char mask_is_wide[sizeof(PIRASTEH_GENERIC_READ) == sizeof(uint32_t) ? 1 : -1];

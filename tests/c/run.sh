@@ -27,7 +27,7 @@ failures=0
 strict=(-Wall -Wextra -Wpedantic -Werror -Iinclude)
 further=(-Wconversion -Wsign-conversion -Wshadow -Wundef -Wstrict-prototypes -Wold-style-cast
     -Wzero-as-null-pointer-constant)
-sources=(examples/c/ask.c examples/c/why.c examples/c/token.c
+sources=(examples/c/ask.c examples/c/why.c examples/c/trail.c examples/c/token.c
     tests/c/vectors.c tests/c/rights.c tests/c/shadow.c)
 
 there() { # compiler

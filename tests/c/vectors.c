@@ -3,10 +3,10 @@
  *     vectors FILE..
  *
  * tests/README.md has the form of the files; whatever does not have it is a failure. A question
- * goes through pirasteh_question and pirasteh_why_question as it is, and through pirasteh_check,
- * pirasteh_why and pirasteh_allows in the parts that a reader of this program's own finds in it. A
- * conversion goes both ways, into rooms of several sizes. The exit code is 0 only if there was a
- * case and nothing failed.
+ * goes through pirasteh_question, pirasteh_why_question and pirasteh_trail_question as it is, and
+ * through pirasteh_check, pirasteh_why, pirasteh_allows and pirasteh_trail in the parts that a reader
+ * of this program's own finds in it. Trails are written into rooms of several sizes. So is a
+ * conversion, which goes both ways. The exit code is 0 only if there was a case and nothing failed.
  *
  * Inputs and rooms are exactly as long as they are said to be, so that a memory checker sees a
  * byte too far. A sanitizer sees it in this program and in the C library only, since the archive
@@ -110,15 +110,15 @@ static int give_back(struct bytes *lent, struct view original)
 
 /* ---- cases, and what is said of them ---- */
 
-/* Lines up to a blank one: `#` lines, then two fields, or three. */
+/* Lines up to a blank one: `#` lines, then two fields to four. */
 struct block {
     const char *file;
     unsigned long line; /* its first, 0 if there is none yet */
     const char *reason;
     int broken;
     int fields;
-    const char *name[3];
-    const char *value[3];
+    const char *name[4];
+    const char *value[4];
 };
 
 struct answer {
@@ -229,7 +229,7 @@ static int starts(const char *text, const char *start)
     return strncmp(text, start, strlen(start)) == 0;
 }
 
-/* What follows `refused `: a number of 1 to 12, but for 11, which only converters give. */
+/* What follows `refused `: a number of 1 to 12, but for 11, which is given by a room's length. */
 static int parse_refusal(const char *text, struct answer *expected)
 {
     static const char *const numbers[] = {"1", "2", "3", "4",  "5",  "6",
@@ -442,6 +442,124 @@ static int call_allows(const struct question *question, const struct bytes *part
                            part[2].at, part[2].length, part[3].at, part[3].length);
 }
 
+/* The room of a trail has guards before and behind it. */
+#define GUARD 16
+
+static struct bytes guarded_bytes(size_t length)
+{
+    struct bytes made = rubbish_bytes(length + 2 * GUARD);
+    made.at += GUARD;
+    made.length = length;
+    return made;
+}
+
+static int guards_hold(const struct bytes *out)
+{
+    struct bytes all = *out;
+    int i;
+    for (i = 1; i <= GUARD; i++)
+        if (out->at[-i] != RUBBISH_BYTE)
+            return 0;
+    all.length += GUARD;
+    return untouched_from(&all, out->length);
+}
+
+/* What is wrong with a trail, or "". */
+static const char *wrong_trail(size_t written, struct view trail, const struct bytes *out)
+{
+    if (written != trail.length)
+        return "the trail has another length";
+    if (memcmp(out->at, trail.at, written) != 0)
+        return "the trail has other bytes";
+    if (!untouched_from(out, written))
+        return "bytes behind the trail were written";
+    if (!guards_hold(out))
+        return "bytes beside the room were written";
+    return "";
+}
+
+/* A question as it is lent: the whole file, or its four parts. */
+struct lent_question {
+    int in_parts;
+    uint32_t kind, mask; /* of a question in parts */
+    const struct bytes *in;
+};
+
+static struct answer call_trail(const struct lent_question *lent, const struct bytes *out,
+                                size_t *written)
+{
+    const struct bytes *in = lent->in;
+    struct answer said = rubbish_answer();
+    if (lent->in_parts)
+        said.status = pirasteh_trail(lent->kind, lent->mask,
+                                     in[0].at, in[0].length, in[1].at, in[1].length,
+                                     in[2].at, in[2].length, in[3].at, in[3].length,
+                                     out->at, out->length, written,
+                                     &said.granted, &said.allowed, &said.staged);
+    else
+        said.status = pirasteh_trail_question(in->at, in->length, out->at, out->length, written,
+                                              &said.granted, &said.allowed, &said.staged);
+    return said;
+}
+
+static void print_room(size_t room, size_t written)
+{
+    printf("  with a room of %lu bytes, where the length is %lu\n", AS(unsigned long, room),
+           AS(unsigned long, written));
+}
+
+/* Into a room of this size. If that is too short nothing is said but that. */
+static int tells(const struct block *block, const struct lent_question *lent, size_t room,
+                 const struct answer *expected, struct view trail)
+{
+    const char *who = lent->in_parts ? "pirasteh_trail" : "pirasteh_trail_question";
+    struct bytes out = guarded_bytes(room);
+    size_t written = RUBBISH_WORD;
+    struct answer said = call_trail(lent, &out, &written);
+    struct answer too_short;
+    const char *wrong;
+    if (trail.length > room) {
+        memset(&too_short, 0, sizeof too_short);
+        too_short.status = PIRASTEH_SHORT_BUFFER;
+        expected = &too_short;
+        trail.length = 0;
+    }
+    wrong = wrong_trail(written, trail, &out);
+    free(out.room);
+    if (*wrong != 0)
+        failed(block, wrong);
+    if (answers(block, who, &said, expected) && *wrong == 0)
+        return 1;
+    print_room(room, written);
+    return 0;
+}
+
+/* Exact room, a byte more and a byte less, none, and as much as any such question needs. */
+static int tells_in_rooms(const struct block *block, const struct lent_question *lent, size_t most,
+                          const struct answer *expected, struct view trail)
+{
+    if (trail.length > most)
+        return failed(block, "malformed: no trail can have this length");
+    return tells(block, lent, trail.length, expected, trail) &&
+           tells(block, lent, trail.length + 1, expected, trail) &&
+           tells(block, lent, most, expected, trail) && tells(block, lent, 0, expected, trail) &&
+           (trail.length == 0 || tells(block, lent, trail.length - 1, expected, trail));
+}
+
+static int tell_whole(const struct block *block, struct view file, const struct answer *expected,
+                      struct view trail)
+{
+    struct bytes copy = copy_of(file);
+    struct lent_question lent;
+    int fine;
+    memset(&lent, 0, sizeof lent);
+    lent.in = &copy;
+    fine = tells_in_rooms(block, &lent, PIRASTEH_TRAIL_QUESTION_MAX, expected, trail);
+    if (!give_back(&copy, file))
+        return failed(block, "pirasteh_trail_question changed its input");
+    return fine;
+}
+
 static int ask_whole(const struct block *block, struct view file, const struct answer *expected)
 {
     struct bytes lent = copy_of(file);
@@ -516,15 +634,35 @@ static int allow_parts(const struct block *block, const struct question *questio
     return 1;
 }
 
+static int tell_parts(const struct block *block, const struct question *question,
+                      const struct answer *expected, struct view trail)
+{
+    size_t most = PIRASTEH_TRAIL_BOUND(question->part[2].length, question->part[3].length);
+    struct bytes copies[4];
+    struct lent_question lent;
+    int fine;
+    lend_parts(copies, question);
+    lent.in_parts = 1;
+    lent.kind = question->kind;
+    lent.mask = question->mask;
+    lent.in = copies;
+    fine = tells_in_rooms(block, &lent, most, expected, trail);
+    if (!give_parts_back(copies, question))
+        return failed(block, "pirasteh_trail changed its input");
+    return fine;
+}
+
 static int ask_parts(const struct block *block, const struct question *question,
-                     const struct why *expected)
+                     const struct why *expected, struct view trail)
 {
     return check_parts(block, question, &expected->answer) &&
            explain_parts(block, question, expected) &&
-           allow_parts(block, question, &expected->answer);
+           allow_parts(block, question, &expected->answer) &&
+           tell_parts(block, question, &expected->answer, trail);
 }
 
-static int ask_both(const struct block *block, struct view file, struct why *expected)
+static int ask_both(const struct block *block, struct view file, struct why *expected,
+                    struct view trail)
 {
     struct question question;
     int readable = read_question(file, &question);
@@ -532,13 +670,14 @@ static int ask_both(const struct block *block, struct view file, struct why *exp
         expected->kind = question.kind;
         expected->asked = asked_of(question.kind, question.mask);
     }
-    if (!ask_whole(block, file, &expected->answer) || !explain_whole(block, file, expected))
+    if (!ask_whole(block, file, &expected->answer) || !explain_whole(block, file, expected) ||
+        !tell_whole(block, file, &expected->answer, trail))
         return 0;
     if (expected->answer.status == PIRASTEH_FILE_SHAPE)
         return readable ? failed(block, "12 is expected, but the file can be read") : 1;
     if (!readable)
         return failed(block, "12 is not expected, but the file cannot be read");
-    return ask_parts(block, &question, expected);
+    return ask_parts(block, &question, expected, trail);
 }
 
 /* An answer has masks, and a refusal has none: all of its words are 0. */
@@ -547,24 +686,37 @@ static int parse_expected(const struct block *block, struct why *expected)
     memset(expected, 0, sizeof *expected);
     if (!parse_line(block->value[1], &expected->answer))
         return failed(block, "malformed: `line` is neither an answer nor a refusal");
-    if ((expected->answer.status == PIRASTEH_ANSWERED) != (block->fields == 3))
+    if ((expected->answer.status == PIRASTEH_ANSWERED) != (block->fields >= 3))
         return failed(block, "malformed: an answer without `masks`, or a refusal with them");
-    if (block->fields == 3 && !parse_masks(block->value[2], expected))
+    if (block->fields >= 3 && !parse_masks(block->value[2], expected))
         return failed(block, "malformed: `masks` is not four masks, the last of them granted");
+    return 1;
+}
+
+/* Without the field there are no events. What was made is to be freed if the answer is 1. */
+static int parse_trail(const struct block *block, struct bytes *trail)
+{
+    if (block->fields == 4 && *block->value[3] == 0)
+        return failed(block, "malformed: a `trail` without events");
+    if (!decode(block->fields == 4 ? block->value[3] : "", trail))
+        return failed(block, "malformed: `trail` is not pairs of hexadecimal digits");
     return 1;
 }
 
 static int run_ask(const struct block *block)
 {
     struct why expected;
-    struct bytes file;
+    struct bytes file, trail;
     int fine;
-    if (!parse_expected(block, &expected))
+    if (!parse_expected(block, &expected) || !parse_trail(block, &trail))
         return 0;
-    if (!decode(block->value[0], &file))
+    if (!decode(block->value[0], &file)) {
+        free(trail.room);
         return failed(block, "malformed: `ask` is not pairs of hexadecimal digits");
-    fine = ask_both(block, view_of(&file), &expected);
+    }
+    fine = ask_both(block, view_of(&file), &expected, view_of(&trail));
     free(file.room);
+    free(trail.room);
     return fine;
 }
 
@@ -697,11 +849,13 @@ static int run_case(const struct block *block)
 {
     if (block->fields < 2)
         return failed(block, "malformed: one field alone");
-    if (block->fields == 3 && strcmp(block->name[2], "masks") != 0)
+    if (block->fields >= 3 && strcmp(block->name[2], "masks") != 0)
         return failed(block, "malformed: the third field is not `masks`");
+    if (block->fields == 4 && strcmp(block->name[3], "trail") != 0)
+        return failed(block, "malformed: the fourth field is not `trail`");
     if (has(block, "ask", "line"))
         return run_ask(block);
-    if (block->fields == 3)
+    if (block->fields >= 3)
         return failed(block, "malformed: `masks` of no question");
     if (has(block, "record", "listing"))
         return run_conversion(block);
@@ -742,8 +896,8 @@ static const char *add_field(struct block *block, char *line)
     char *mark = strstr(line, " = ");
     if (!mark)
         return "malformed: no ` = ` in a line";
-    if (block->fields == 3)
-        return "malformed: a fourth field";
+    if (block->fields == 4)
+        return "malformed: a fifth field";
     *mark = 0;
     block->name[block->fields] = line;
     block->value[block->fields] = mark + strlen(" = ");

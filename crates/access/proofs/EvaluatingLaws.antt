@@ -18,7 +18,7 @@ use Rattle.passes.specs.Matching.{hitsOf}
 use Rattle.passes.specs.NormalEvaluation.{Dacl, privilegesGive, listGives, normalOf}
 use Rattle.passes.specs.Confinement.{everything, confinementOf}
 use Rattle.passes.specs.declared.matching.Hits.{Hits}
-use Rattle.policy.specs.Rules.{Lists, ruled, narrowedBy, judgedBy, ruledFrom}
+use Rattle.policy.specs.Rules.{Lists, unruled, narrowedBy, judgedBy, ruledFrom}
 use Rattle.policy.specs.declared.rules.Ruled.{Ruled}
 use Rattle.access.specs.Granted.{foundOf}
 use Rattle.access.specs.Evaluating.{confinementIn, foundIn}
@@ -73,5 +73,5 @@ module _ (kind : ℕ) (t : Token) (owner self : List ℕ) (d : Dacl) where
         crowd-listed t o,
         privileges-listed t,
         normal-low kind (crowdOf t) (hitsOf (crowdOf t) owner self) (t .privileges) d,
-        ruled-low kind (crowdOf t) (hitsOf (crowdOf t) owner self) (t .privileges) (ruled everything 0) rules,
+        ruled-low kind (crowdOf t) (hitsOf (crowdOf t) owner self) (t .privileges) unruled rules,
       )

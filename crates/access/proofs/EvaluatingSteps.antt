@@ -20,7 +20,7 @@ use Rattle.passes.specs.declared.walk.Walked.{Walked}
 use Rattle.passes.proofs.CrowdsLaws.{Alike, hits-alike, walked-alike}
 use Rattle.passes.proofs.ChainedLaws.{chains-say}
 use Rattle.passes.proofs.EvaluationLaws.{listed-is, normal-is}
-use Rattle.policy.specs.Rules.{Lists, ruled, ruledBy}
+use Rattle.policy.specs.Rules.{Lists, unruled, ruledBy}
 use Rattle.policy.specs.declared.rules.Ruled.{Ruled}
 use Rattle.policy.proofs.RulesLaws.{ruled-alike}
 use Rattle.access.specs.Evaluating.{crowdIn, flagsIn, privilegesIn, daclAs, confinementIn, foundIn}
@@ -71,7 +71,7 @@ module _ (kind : ℕ) (ms ns : List Member) (same : Alike ms ns) (owner self : L
       r ≡ ruledBy kind ns (hitsOf ns owner self) p rs
   rules-shown p rs h r e f =
       f
-      ∙ ruled-alike ms ns same kind h p (ruled everything 0) rs
+      ∙ ruled-alike ms ns same kind h p unruled rs
       ∙ ap (λ (x : Hits). ruledBy kind ns x p rs) (e ∙ hits-alike ms ns same owner self)
 
 -- ---- confinement, and what is found of it all
@@ -96,6 +96,8 @@ module _ (kind : ℕ) (l : List ℕ) (at : ℕ) (owner self : List ℕ) (present
         confined = record { 0 = bitAnd (n .0) (c .0) };
         ruled = record { 0 = bitAnd (bitAnd (n .0) (c .0)) (r .left .0) };
         differ = r .differ;
+        «has_sacl» = r .«has_sacl»;
+        «has_staged_sacl» = r .«has_staged_sacl»;
       })
       (foundIn kind l at owner self (daclAs present list) rules)
   unfolding foundIn

@@ -3,15 +3,17 @@
 use Prim.Native.Nat.{ℕ, _+_, _≤_, _<_}
 use mathlib.Core.Path.{_≡_, refl, _∙_}
 use mathlib.Core.List.{List}
-use mathlib.Core.Bool.{true, false}
+use mathlib.Core.Bool.{Bool, true, false, cond}
 use native.Mathlib.Omega.{arith}
+use lib.Dec.{ltb}
 use lib.ListN.{length}
 use borrow.Author.Tests.{lt-ltb, le-ltb, le-leb, lt-leb, eq-eqb, ne-eqb}
-use Rattle.base.specs.Bytes.{part}
+use Rattle.base.specs.Bytes.{Read, part}
 use Rattle.base.specs.Bytes.Read.{none, some}
 use Rattle.base.specs.Sevens.{number}
-use Rattle.access.specs.Status.{Question, refused, checked}
-use Rattle.access.specs.QuestionFile.{blobAt, questionOf, fileAnswer}
+use Rattle.access.specs.Status.{Question, refused}
+use Rattle.access.specs.Reported.{refusal, reportOf}
+use Rattle.access.specs.QuestionFile.{blobAt, questionOf, answering, fileAnswer, reporting, fileReport}
 use Rattle.access.specs.Blobs.{noBlob, bytesIn, handed, nowhere, questionIn, posed, BlobLies, PlacesLie}
 use Rattle.access.specs.declared.file.Blob.{Blob}
 use Rattle.access.specs.declared.file.Places.{Places}
@@ -91,19 +93,29 @@ not-posed s r e n =
     let none-lies : BlobLies s noBlob = (omega arith, omega arith) in
     rw (e, n) (refl, record { token = none-lies; me = none-lies; descriptor = none-lies; policy = none-lies })
 
+-- the report on a file, and its answer
 module _ (s : List ℕ) where
-  pub file-long : 65536 < length s → fileAnswer s ≡ refused 12
-  unfolding fileAnswer
+  pub file-long : 65536 < length s → fileReport s ≡ refusal 12
+  unfolding fileReport
   file-long l = rw (lt-ltb 65536 (length s) l)
 
   module _ (l : length s ≤ 65536) where
-    pub file-misshapen : questionOf s ≡ none → fileAnswer s ≡ refused 12
-    unfolding fileAnswer
+    pub file-misshapen : questionOf s ≡ none → fileReport s ≡ refusal 12
+    unfolding fileReport
     file-misshapen e = rw (le-ltb 65536 (length s) l, e)
 
-    pub file-answered : (q : Question) (end : ℕ) → questionOf s ≡ some q end → fileAnswer s ≡ checked q
-    unfolding fileAnswer
+    pub file-answered : (q : Question) (end : ℕ) → questionOf s ≡ some q end → fileReport s ≡ reportOf q
+    unfolding fileReport
     file-answered q end e = rw (le-ltb 65536 (length s) l, e)
+
+  pub file-told : fileReport s .answer ≡ fileAnswer s
+  unfolding fileReport fileAnswer reportOf
+  file-told = go (ltb 65536 (length s)) (questionOf s)
+    where
+      go : (b : Bool) (r : Read Question) → cond b (refusal 12) (reporting r) .answer ≡ cond b (refused 12) (answering r)
+      go true r = refl
+      go false none = refl
+      go false (some q end) = refl
 
 pub posed-none : (s : List ℕ) (p : Places) → questionOf s ≡ posed s p → p .ok ≡ false → questionOf s ≡ none
 posed-none s p e n = e ∙ rw n

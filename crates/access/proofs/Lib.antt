@@ -2,7 +2,10 @@
 -- the evaluation from a flat listing, and the check read off what is found
 pub mod EvaluatingLaws
 pub mod FindingsLaws
+pub mod ReportLaws
 mod EvaluatingSteps
+mod AuditingSteps
+mod AnsweringSteps
 mod SeatingLaws
 mod TokenSteps
 mod FileSteps

@@ -16,6 +16,7 @@ use Rattle.base.proofs.PlaceLaws.{Stands}
 use Rattle.lists.proofs.ByLengthLaws.{dacl-by-length}
 use Rattle.sids.proofs.SidLaws.{sid-end-short}
 use Rattle.lists.specs.Descriptor as descriptor
+use Rattle.lists.specs.declared.descriptor.Parts.{Parts}
 use Rattle.lists.specs.declared.descriptor.Verdict.{Verdict}
 use Rattle.lists.specs.declared.descriptor.Verdict.the-variants.{Whole, Ownerless, ForeignEntry}
 use Rattle.lists.specs.declared.descriptor.Verdict.the-variants as verdict
@@ -45,12 +46,13 @@ use Rattle.policy.proofs.PolicyLaws.{sound-by-lengths}
 use Rattle.access.specs.Status.{descriptorNumber, policyNumber, daclIn, findings}
 use Rattle.access.specs.Evaluating.{daclAs, foundIn}
 use Rattle.access.specs.declared.answer.Found.{Found}
-use Rattle.access.specs.Findings.{stopped, findingsOf}
+use Rattle.access.specs.declared.answer.Findings.{Findings}
+use Rattle.access.specs.Findings.{stopped, accepted, findingsOf}
 use Rattle.access.proofs.FindingsLaws.{findings-misshapen, findings-broken}
 use Rattle.access.proofs.EvaluatingLaws.{found-listed}
 
 -- only a sound policy has no number
-number-sound : (v : Standing) → policy.numberOf v ≡ 0 → v ≡ Sound
+pub number-sound : (v : Standing) → policy.numberOf v ≡ 0 → v ≡ Sound
 unfolding policy.numberOf
 number-sound Sound e = refl
 number-sound Misshapen e = absurd (omega arith)
@@ -109,6 +111,13 @@ token-refused kind s self d p r room o n = go (readRecord s) refl (o .status)
         by true f q′ = absurd (n q′)
         by false f q′ = rw q′ (findings-broken kind s self d p t end e f)
 
+-- the room after a refusal, of which nothing is said
+pub stopped-room : (n : ℕ) (r : Findings) (room s : List ℕ) → r ≡ stopped n → (n ≡ 0 → ⊥) →
+    (r .status ≡ 0 → take (r .length) room ≡ asListing s .bytes) × (r .length ≤ length room)
+stopped-room n r room s e h =
+    let l : r .length ≡ 0 = ap (λ (x : Findings). x .length) e in
+    (λ z. absurd (h (sym (ap (λ (x : Findings). x .status) e) ∙ z)), omega (arith, l))
+
 -- what is found over the listing is what the rules say of the token
 pub found-whole :
     (kind : ℕ) (s : List ℕ) (r : Extent) (room : List ℕ) (t : Held s r room) → T (areBytes s) →
@@ -134,6 +143,11 @@ found-whole kind s r room t bytes l owner list self d p present f listing named 
       sound-by-lengths p (number-sound (standingOf p) sound),
     )
     (found-listed kind (t .token) (ownerOf d) self (daclIn d) (rulesOf p) o)
+
+-- and it is handed out with the listing's length and the places of owner and SACL
+pub findings-made : {f : Found} (g : Found) (t : Token) (d : List ℕ) {n : ℕ} (p : Parts) → f ≡ g → n ≡ length (listingOf t) → p ≡ partsOf d →
+    _≡_ {A = Findings} (record { status = 0; found = f; length = n; owner = p .owner; sacl = p .sacl }) (accepted t d g)
+findings-made g t d p e l q = rw (e, l, q)
 
 -- ---- how long a listing and its crowds are at most
 

@@ -14,7 +14,12 @@ use Rattle.passes.specs.Matching.{hitsOf}
 use Rattle.passes.specs.NormalEvaluation.{Dacl, listGives, normalOf}
 use Rattle.passes.specs.Confinement.{confines, everything}
 use Rattle.policy.specs.Rules.{Lists, ruledBy}
+use Rattle.audit.specs.Events.{eventsOf, stagesAudit}
+use Rattle.audit.specs.Trail.{trailBytes}
+use Rattle.access.specs.Granted.{soughtOf, flagged}
+use Rattle.access.specs.Reported.{Report, report, lending}
 use Rattle.access.specs.declared.answer.Found.{Found}
+use Rattle.access.specs.declared.answer.Answer.{Answer}
 
 -- the normal identities, the flags, and the enabled privileges as far as they are read: bits 8 and 9 stand in the lower word
 abbrev pub crowdIn : List ℕ → List Member
@@ -58,4 +63,13 @@ foundIn kind l at owner self d rules =
       confined = record { 0 = c };
       ruled = record { 0 = and c (r .left .0) };
       differ = r .differ;
+      «has_sacl» = r .«has_sacl»;
+      «has_staged_sacl» = r .«has_staged_sacl»;
     }
+
+-- the audit over a listing (request 105): the report on an answer, where a buffer is lent or not
+unfoldable pub reportIn : Bool → ℕ → ℕ → List ℕ → List ℕ → List ℕ → List ℕ → List Lists → Answer → Report
+reportIn lent kind mask l owner self sacl rules a =
+    let s = soughtOf kind mask a in
+    let h = hitsOf (crowdIn l) owner self in
+    lending lent (report (flagged a (stagesAudit s (crowdIn l) h rules)) (trailBytes (eventsOf s (crowdIn l) h sacl rules)))

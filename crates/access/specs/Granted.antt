@@ -13,12 +13,14 @@ use Rattle.passes.specs.NormalEvaluation.{Dacl, normalOf}
 use Rattle.passes.specs.Confinement.{confinementOf}
 use Rattle.policy.specs.Rules.{Lists, ruledBy}
 use Rattle.lists.specs.declared.acl.Rights.{Rights}
+use Rattle.audit.specs.declared.firing.Sought.{Sought}
 use Rattle.access.specs.declared.answer.Found.{Found}
 use Rattle.access.specs.declared.answer.Answer.{Answer}
 
 -- ---- found for the kind
 
--- the bits after normal evaluation, after confinement, after policy, and those on which effective and staged results differ
+-- the bits after normal evaluation, after confinement, after policy, and those on which effective and staged results differ; and whether a
+-- rule that applies has an effective SACL, and a staged one (request 105)
 unfoldable pub foundOf : ℕ → Token → List ℕ → List ℕ → Dacl → List Lists → Found
 foundOf kind t owner self d rules =
     let h = hitsOf (crowdOf t) owner self in
@@ -30,6 +32,8 @@ foundOf kind t owner self d rules =
       confined = record { 0 = c };
       ruled = record { 0 = and c (r .left .0) };
       differ = r .differ;
+      «has_sacl» = r .«has_sacl»;
+      «has_staged_sacl» = r .«has_staged_sacl»;
     }
 
 -- ---- read off for a mask
@@ -62,4 +66,23 @@ answerOf kind mask f =
       granted = g;
       allowed = allowedOf kind mask (g .0);
       staged = stagedOf kind mask f;
+    }
+
+-- ---- and with the audit
+
+-- what an event must concern, once the answer is known (request 105): the kind, the explicit bits and "the final allowed answer"
+abbrev pub soughtOf : ℕ → ℕ → Answer → Sought
+soughtOf kind mask a = record { kind = kind; bits = record { 0 = explicit kind mask }; allowed = a .allowed }
+
+-- "A staged SACL now raises the staging flag" (request 105)
+abbrev pub flagged : Answer → Bool → Answer
+flagged a raised =
+    record {
+      status = a .status;
+      normal = a .normal;
+      confined = a .confined;
+      ruled = a .ruled;
+      granted = a .granted;
+      allowed = a .allowed;
+      staged = a .staged || raised;
     }

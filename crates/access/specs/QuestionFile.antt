@@ -9,6 +9,7 @@ use Rattle.base.specs.Bytes.{Read, bind, only, part}
 use Rattle.base.specs.Bytes.Read.{none, some}
 use Rattle.base.specs.Sevens.{number}
 use Rattle.access.specs.Status.{Question, checked, refused}
+use Rattle.access.specs.Reported.{Report, refusal, reportOf}
 use Rattle.access.specs.declared.answer.Answer.{Answer}
 use Rattle.access.specs.declared.file.Desired.{Desired}
 
@@ -40,3 +41,11 @@ desiredOf (some q end) = record { kind = q .kind; mask = record { 0 = q .mask } 
 
 abbrev pub fileDesires : List ℕ → Desired
 fileDesires s = desiredOf (questionOf s)
+
+-- the report on a question file (request 105); 12 comes first of all
+abbrev pub reporting : Read Question → Report
+reporting none = refusal 12
+reporting (some q end) = reportOf q
+
+unfoldable pub fileReport : List ℕ → Report
+fileReport s = let r = reporting (questionOf s) in cond (ltb 65536 (length s)) (refusal 12) r

@@ -9,16 +9,21 @@ use Rattle.base.specs.Bytes.Read.{none, some}
 use Rattle.sids.specs.Sid.{isSid}
 use Rattle.lists.specs.Acl.{entriesOf}
 use Rattle.lists.specs.Descriptor as descriptor
-use Rattle.lists.specs.Descriptor.{partsOf, ownerOf, daclOf}
+use Rattle.lists.specs.Descriptor.{partsOf, ownerOf, daclOf, saclOf}
 use Rattle.records.specs.Token.{Token}
+use Rattle.records.specs.Crowd.{crowdOf}
 use Rattle.records.specs.TokenRecord.{readRecord}
 use Rattle.records.specs.TokenRules.{keeps}
 use Rattle.masks.specs.KindsAndMasks.{knownKind, legal}
 use Rattle.passes.specs.NormalEvaluation.{Dacl}
+use Rattle.passes.specs.Matching.{hitsOf}
+use Rattle.passes.specs.declared.matching.Hits.{Hits}
 use Rattle.policy.specs.Policy as policy
 use Rattle.policy.specs.Policy.{standingOf}
 use Rattle.policy.specs.Rules.{rulesOf}
-use Rattle.access.specs.Granted.{foundOf, answerOf}
+use Rattle.audit.specs.Events.{Event, eventsOf, stagesAudit}
+use Rattle.audit.specs.declared.firing.Sought.{Sought}
+use Rattle.access.specs.Granted.{foundOf, answerOf, soughtOf, flagged}
 use Rattle.access.specs.declared.answer.Answer.{Answer}
 use Rattle.access.specs.declared.answer.Found.{Found}
 
@@ -64,13 +69,35 @@ policyNumber p = policy.numberOf (standingOf p)
 abbrev pub findings : ℕ → Token → List ℕ → List ℕ → List ℕ → Found
 findings kind t self d p = foundOf kind t (ownerOf d) self (daclIn d) (rulesOf p)
 
+-- the answer by the access lists alone
+abbrev pub byLists : Question → Token → Answer
+byLists q t = answerOf (q .kind) (q .mask) (findings (q .kind) t (q .self) (q .descriptor) (q .policy))
+
+-- the audit of it (request 105) is a step of its own: it goes by the explicit bits and the allowed answer, and matches as the normal pass does
+abbrev pub soughtFor : Question → Token → Sought
+soughtFor q t = soughtOf (q .kind) (q .mask) (byLists q t)
+
+abbrev pub hitsFor : Question → Token → Hits
+hitsFor q t = hitsOf (crowdOf t) (ownerOf (q .descriptor)) (q .self)
+
+-- whether a staged SACL raises the flag, and the events
+abbrev pub raisedFor : Question → Token → Bool
+raisedFor q t = stagesAudit (soughtFor q t) (crowdOf t) (hitsFor q t) (rulesOf (q .policy))
+
+abbrev pub eventsFor : Question → Token → List Event
+eventsFor q t = eventsOf (soughtFor q t) (crowdOf t) (hitsFor q t) (saclOf (q .descriptor)) (rulesOf (q .policy))
+
+-- the answer to an accepted question
+unfoldable pub answerTo : Question → Token → Answer
+answerTo q t = flagged (byLists q t) (raisedFor q t)
+
 -- from 5 on, for a token
 unfoldable pub afterToken : Question → Token → Answer
 afterToken q t =
     cond (selfFits (q .self))
     (cond (eqb (descriptorNumber (q .descriptor)) 0)
     (cond (eqb (policyNumber (q .policy)) 0)
-    (answerOf (q .kind) (q .mask) (findings (q .kind) t (q .self) (q .descriptor) (q .policy)))
+    (answerTo q t)
     (refused (policyNumber (q .policy))))
     (refused (descriptorNumber (q .descriptor))))
     (refused 5)
@@ -80,6 +107,6 @@ abbrev pub withToken : Question → Read Token → Answer
 withToken q none = refused 3
 withToken q (some t end) = cond (keeps t) (afterToken q t) (refused 4)
 
--- 1: "kind is not 1 or 2"; 2: the mask has a foreign bit
+-- 1: "kind is not 1 or 2"; 2: the mask has a foreign bit. This is the answer with room for any trail: Reported has the trail, and 11
 unfoldable pub checked : Question → Answer
 checked q = cond (knownKind (q .kind)) (cond (legal (q .kind) (q .mask)) (withToken q (readRecord (q .token))) (refused 2)) (refused 1)

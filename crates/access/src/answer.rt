@@ -3,22 +3,30 @@ ghost use mathlib.Core.Path.{_≡_};
 ghost use Rattle.access.specs.Granted.{allowedOf, answerOf};
 ghost use Rattle.access.specs.Status.{refused};
 ghost use Rattle.access.specs.Findings.{stopped};
+use lists::Extent;
 use lists::Rights;
 use masks::Tally;
 
-// The bits after normal evaluation, after confinement and after policy, and those on which a rule's
-// effective and staged results differ. It does not depend on the desired mask.
+// The bits after normal evaluation, after confinement and after policy, those on which a rule's
+// effective and staged results differ, and whether a rule that applies has an effective SACL, and a
+// staged one. It does not depend on the desired mask.
 pub struct Found {
     pub normal: Rights,
     pub confined: Rights,
     pub ruled: Rights,
     pub differ: Rights,
+    pub has_sacl: bool,
+    pub has_staged_sacl: bool,
 }
 
-// The page's status number (0, or 3 to 10), and what was found; all 0 on refusal.
+// The page's status number (0, or 3 to 10), and what was found; for the audit how long the token's
+// listing is, and where the descriptor's owner and SACL stand. All 0 and false on refusal.
 pub struct Findings {
     pub status: u32,
     pub found: Found,
+    pub length: usize,
+    pub owner: Extent,
+    pub sacl: Extent,
 }
 
 // The page's status number; of the asked bits those after normal evaluation, after confinement and
@@ -33,6 +41,12 @@ pub struct Answer {
     pub staged: bool,
 }
 
+// An answer, and how long its trail is in the buffer that was lent.
+pub struct Traced {
+    pub answer: Answer,
+    pub length: usize,
+}
+
 // Findings that are refused with a number.
 pub(crate) fn stopped(status: u32) -> Findings
     ensures { λ r. ⌜ r ≡ stopped status ⌝ }
@@ -44,7 +58,12 @@ pub(crate) fn stopped(status: u32) -> Findings
             confined: Tally::NONE,
             ruled: Tally::NONE,
             differ: Tally::NONE,
+            has_sacl: false,
+            has_staged_sacl: false,
         },
+        length: 0,
+        owner: Extent { from: 0, to: 0 },
+        sacl: Extent { from: 0, to: 0 },
     }
 }
 
@@ -63,6 +82,14 @@ pub(crate) fn refused(status: u32) -> Answer
         allowed: false,
         staged: false,
     }
+}
+
+// A refusal has no trail.
+pub(crate) fn untraced(status: u32) -> Traced
+    ensures { λ r. ⌜ (r .answer ≡ refused status) × (r .length ≡ 0) ⌝ }
+{
+    let answer = refused(status);
+    Traced { answer, length: 0 }
 }
 
 // Whether every explicit bit is granted and, where the maximum was asked, any bit at all.

@@ -13,7 +13,7 @@ use lists::Rights;
 use masks::Tally;
 
 // Where the user stands in a listing.
-const USER: usize = 12;
+pub(crate) const USER: usize = 12;
 
 // Whether confinement applies: flag 1, confined, without flag 2, exempt.
 fn confines(flags: u32) -> bool
@@ -87,6 +87,8 @@ fn found_with(
         confined,
         ruled,
         differ,
+        has_sacl: rules.has_sacl,
+        has_staged_sacl: rules.has_staged_sacl,
     }
 }
 

@@ -3,11 +3,14 @@
 ghost use mathlib.Core.Path.{_≡_};
 ghost use Prim.Native.Nat.{_≤_};
 ghost use lib.ListN.{length};
-ghost use Rattle.access.specs.QuestionFile.{blobAt, questionOf, fileAnswer, fileDesires};
+ghost use Rattle.access.specs.QuestionFile.{blobAt, questionOf, fileAnswer, fileReport};
+ghost use Rattle.access.specs.QuestionFile.{fileDesires};
+ghost use Rattle.access.specs.Reported.{lending, inBuffer, Lent};
 ghost use Rattle.access.specs.Blobs.{noBlob, bytesIn, handed, nowhere, posed, PlacesLie};
 use crate::answer::Answer;
-use crate::answer::refused;
-use crate::decide::check;
+use crate::answer::Traced;
+use crate::answer::untraced;
+use crate::decide::reported;
 use lists::Rights;
 
 // A part of the file, from a place up to another; both 0 where none stands.
@@ -150,22 +153,41 @@ fn bytes_in(s: &[u8], b: Blob) -> &[u8]
     &s[from..to]
 }
 
-// The answer to a question file; 12 where it is misshapen or longer than 65,536 bytes.
-pub fn question(s: &[u8]) -> Answer
-    ensures { λ r. ⌜ r ≡ fileAnswer (now (s .entry)) ⌝ }
+// The report on a question file, where a buffer is lent for its trail or not; 12 where it is misshapen
+// or longer than 65,536 bytes.
+fn file_report(s: &[u8], out: &mut [u8], lent: bool) -> Traced
+    ensures { λ r. ⌜ Lent (inBuffer (length (now (out .entry))) (lending lent
+        (fileReport (now (s .entry))))) (now (out .entry)) (now (out .exit)) r ⌝ }
 {
     if 65536 < s.len() {
-        return refused(12);
+        return untraced(12);
     }
     let p = parse(s);
     if !p.ok {
-        return refused(12);
+        return untraced(12);
     }
     let token = bytes_in(s, p.token);
     let me = bytes_in(s, p.me);
     let descriptor = bytes_in(s, p.descriptor);
     let policy = bytes_in(s, p.policy);
-    check(p.kind, p.mask, token, me, descriptor, policy)
+    reported(p.kind, p.mask, token, me, descriptor, policy, out, lent)
+}
+
+// The answer to a question file.
+pub fn question(s: &[u8]) -> Answer
+    ensures { λ r. ⌜ r ≡ fileAnswer (now (s .entry)) ⌝ }
+{
+    let mut none = [0u8; 1];
+    let t = file_report(s, &mut none, false);
+    t.answer
+}
+
+// The answer to a question file, and its trail at the front of `out`: 11 where that is too short.
+pub fn trail_question(s: &[u8], out: &mut [u8]) -> Traced
+    ensures { λ r. ⌜ Lent (inBuffer (length (now (out .entry))) (fileReport (now (s .entry))))
+        (now (out .entry)) (now (out .exit)) r ⌝ }
+{
+    file_report(s, out, true)
 }
 
 // What the question of a file desires, whatever it is answered; 0 and 0 where the file holds none.

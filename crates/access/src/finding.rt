@@ -2,9 +2,11 @@
 // evaluation. Requests for many masks are answered from one finding.
 ghost use mathlib.Core.Path.{_≡_};
 ghost use mathlib.Core.Bool.{true};
-ghost use lib.ListN.{length};
+ghost use Prim.Native.Nat.{_≤_};
+ghost use lib.ListN.{length, take};
 ghost use Rattle.lists.specs.Descriptor as descriptor;
 ghost use Rattle.policy.specs.Policy as policy;
+ghost use Rattle.records.specs.Converters.{asListing};
 ghost use Rattle.records.specs.Unpacking.{roomFits};
 ghost use Rattle.access.specs.Status.{selfFits};
 ghost use Rattle.access.specs.Findings.{findingsOf};
@@ -48,8 +50,8 @@ fn standing_number(v: Standing) -> u32
 }
 
 // What is found, or the number of a refusal. The token's listing is made in `room`, which is long
-// enough for it.
-fn findings_in(
+// enough for it, and left at its front.
+pub(crate) fn findings_in(
     kind: u32,
     token: &[u8],
     me: &[u8],
@@ -60,6 +62,8 @@ fn findings_in(
     requires { ⌜ roomFits (length (now room)) (length (now token)) ≡ true ⌝ }
     ensures { λ r. ⌜ r ≡ findingsOf kind (now (token .entry)) (now (me .entry))
         (now (descriptor .entry)) (now (policy .entry)) ⌝ }
+    ensures { λ r. ⌜ ((r .status ≡ 0) → take (r .length) (now (room .exit))
+        ≡ asListing (now (token .entry)) .bytes) × (r .length ≤ length (now (room .exit))) ⌝ }
 {
     let listed = tokens::list_in(token, room);
     if listed.status != 0 {
@@ -92,33 +96,13 @@ fn findings_in(
         list,
         policy,
     );
-    Findings { status: 0, found }
-}
-
-// What is found, or the number of a refusal. The room for the token's listing is chosen by the
-// record's length.
-pub(crate) fn findings(
-    kind: u32,
-    token: &[u8],
-    me: &[u8],
-    descriptor: &[u8],
-    policy: &[u8],
-) -> Findings
-    ensures { λ r. ⌜ r ≡ findingsOf kind (now (token .entry)) (now (me .entry))
-        (now (descriptor .entry)) (now (policy .entry)) ⌝ }
-{
-    if token.len() <= 64 {
-        let mut tiny = [0u8; 256];
-        return findings_in(kind, token, me, descriptor, policy, &mut tiny);
+    let named = parts.owner;
+    let sacl = parts.sacl;
+    Findings {
+        status: 0,
+        found,
+        length: n,
+        owner: named,
+        sacl,
     }
-    if token.len() <= 512 {
-        let mut small = [0u8; 2048];
-        return findings_in(kind, token, me, descriptor, policy, &mut small);
-    }
-    if token.len() <= 2048 {
-        let mut middle = [0u8; 8192];
-        return findings_in(kind, token, me, descriptor, policy, &mut middle);
-    }
-    let mut large = [0u8; 22940];
-    findings_in(kind, token, me, descriptor, policy, &mut large)
 }

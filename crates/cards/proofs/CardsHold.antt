@@ -67,7 +67,7 @@ pub file-refused : fileAnswer file-long ≡ refused 12
 unfolding the-page
 file-refused = refl
 
--- 11, of the converters alone: TU's listing has 32 bytes
+-- 11, of a converter: TU's listing has 32 bytes. Of a trail: TrailsHold
 pub short-buffer : fitted 31 (asListing TU) ≡ refusal 11
 unfolding the-page
 short-buffer = refl

@@ -11,3 +11,5 @@ pub mod DemandThreeMet
 pub mod LongEntriesMet
 -- request 102: a folder that its owner keeps, and one that he loses
 pub mod OwnerEntriesMet
+-- request 105: a trail
+pub mod TrailsHold

@@ -23,9 +23,9 @@ use Rattle.passes.specs.NormalEvaluation.{Dacl, normalOf}
 use Rattle.passes.specs.Confinement.{confines, everything, confinementOf}
 use Rattle.policy.specs.Rules.{Lists, rulesOf, ruledFrom, ruledBy}
 use Rattle.access.specs.Granted.{foundOf, answerOf}
-use Rattle.access.specs.Status.{Question, daclIn, checked}
+use Rattle.access.specs.Status.{Question, daclIn, answerTo, checked}
 use Rattle.access.specs.declared.answer.Answer.{Answer}
-use Rattle.demands.specs.Accepted.{Accepted, tokenIn, byRules}
+use Rattle.demands.specs.Accepted.{Accepted, tokenIn, byRules, ruledOn}
 use Rattle.demands.specs.Strangers.{SameButOneRule}
 use Rattle.demands.specs.FourMasks.{Narrowing, FirstTwoStill, Step, takes, TakenOnce}
 use Rattle.demands.specs.FourMasks.Step.{normal-evaluation, confinement, policy}
@@ -49,7 +49,7 @@ found-ruled kind t owner self d rules =
     (ruledBy kind (crowdOf t) h (t .privileges) rules .left .0)
 
 rules-narrow : (q : Question) (t : Token) → Narrowing (asked (q .kind) (q .mask)) (byRules q t)
-unfolding answerOf
+unfolding answerTo answerOf
 rules-narrow q t =
     let a = asked (q .kind) (q .mask) in
     let d = daclIn (q .descriptor) in
@@ -73,11 +73,12 @@ masks-narrow q = go (eqb (checked q .status) 0) refl
 -- ---- whatever the policy, the first two stay
 
 found-first-two : (kind mask : ℕ) (t : Token) (owner self : List ℕ) (d : Dacl) (rules others : List Lists) →
-    FirstTwoStill (answerOf kind mask (foundOf kind t owner self d rules)) (answerOf kind mask (foundOf kind t owner self d others))
+    FirstTwoStill (ruledOn kind mask t owner self d rules) (ruledOn kind mask t owner self d others)
 unfolding foundOf answerOf
 found-first-two kind mask t owner self d rules others = record { normal = refl; confined = refl }
 
 rules-still : (p q : Question) → SameButOneRule p q → FirstTwoStill (byRules p (tokenIn p)) (byRules q (tokenIn q))
+unfolding answerTo
 rules-still p q s =
     rw (← s .kind, ← s .mask, ← s .token, ← s .self, ← s .descriptor)
     (found-first-two (p .kind) (p .mask) (tokenIn p) (ownerOf (p .descriptor)) (p .self) (daclIn (p .descriptor)) (rulesOf (p .policy))
@@ -136,14 +137,14 @@ cut-all a m l =
     sym (and-assoc a m everything) ∙ and-mask (and a m) 32 ∙ omega arith
 
 rules-unconfined : (q : Question) (t : Token) → confines (t .flags) ≡ false → byRules q t .confined ≡ byRules q t .normal
-unfolding answerOf foundOf confinementOf
+unfolding answerTo answerOf foundOf confinementOf
 rules-unconfined q t c = rw c (ap (λ (m : ℕ). record { 0 = m }) (cut-all (asked (q .kind) (q .mask)) _ (asked-lt (q .kind) (q .mask))))
 
 pub unconfined-keeps : (q : Question) → Accepted q → confines (tokenIn q .flags) ≡ false → checked q .confined ≡ checked q .normal
 unconfined-keeps q a c = rw (accepted-is q a) (rules-unconfined q (tokenIn q) c)
 
 rules-none : (q : Question) (t : Token) → rulesOf (q .policy) ≡ [] → byRules q t .ruled ≡ byRules q t .confined
-unfolding answerOf foundOf ruledFrom
+unfolding answerTo answerOf foundOf ruledFrom
 rules-none q t e = rw e (ap (λ (m : ℕ). record { 0 = m }) (cut-all (asked (q .kind) (q .mask)) _ (asked-lt (q .kind) (q .mask))))
 
 pub no-rule-keeps : (q : Question) → Accepted q → rulesOf (q .policy) ≡ [] → checked q .ruled ≡ checked q .confined

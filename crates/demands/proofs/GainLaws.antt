@@ -11,11 +11,11 @@ use Rattle.records.specs.Crowd.{crowdOf}
 use Rattle.masks.specs.KindsAndMasks.{asked}
 use Rattle.passes.specs.Matching.{hitsOf}
 use Rattle.passes.specs.NormalEvaluation.{Dacl, normalOf}
-use Rattle.passes.specs.Confinement.{confinementOf, everything}
-use Rattle.policy.specs.Rules.{Lists, ruled}
+use Rattle.passes.specs.Confinement.{confinementOf}
+use Rattle.policy.specs.Rules.{Lists, unruled}
 use Rattle.policy.proofs.RulesLaws.{ruled-within}
 use Rattle.access.specs.Granted.{foundOf, answerOf}
-use Rattle.access.specs.Status.{Question, daclIn, checked}
+use Rattle.access.specs.Status.{Question, daclIn, answerTo, checked}
 use Rattle.demands.specs.Accepted.{Accepted, tokenIn, byRules}
 use Rattle.demands.specs.Strangers.{SameButOneRule}
 use Rattle.demands.proofs.AcceptedLaws.{accepted-is}
@@ -26,10 +26,10 @@ unfolding foundOf
 found-gained kind t owner self d before r after =
     let h = hitsOf (crowdOf t) owner self in
     let c = and (normalOf kind (crowdOf t) h (t .privileges) d) (confinementOf kind t owner self d) in
-    and-mono c c _ _ (within-refl c) (ruled-within kind (crowdOf t) h (t .privileges) (ruled everything 0) before r after)
+    and-mono c c _ _ (within-refl c) (ruled-within kind (crowdOf t) h (t .privileges) unruled before r after)
 
 rules-gained : (p q : Question) → SameButOneRule p q → Within (byRules q (tokenIn q) .granted .0) (byRules p (tokenIn p) .granted .0)
-unfolding answerOf
+unfolding answerTo answerOf
 rules-gained p q s =
     let g = s .policy in
     rw (← s .kind, ← s .mask, ← s .token, ← s .self, ← s .descriptor, g .old, g .new)

@@ -6,7 +6,9 @@ pub mod NumbersLaws
 pub mod StatusLaws
 pub mod FileLaws
 pub mod ConverterLaws
--- demand 3
+-- demand 3: a stranger matches nobody; SACLs; the whole; a rule more
+pub mod UnknownLaws
+pub mod AuditStrangersLaws
 pub mod StrangersLaws
 pub mod GainLaws
 -- request 101
@@ -17,6 +19,14 @@ pub mod OwnersRightsLaws
 pub mod ObjectListsLaws
 -- request 103
 pub mod SomeCallersLaws
+-- request 105
+pub mod TrailLaws
+pub mod FileTrailLaws
+-- how long a trail is at most: where a rule's SACL stands, a SACL's events, a question's, a file's
+pub mod RuleSaclLaws
+pub mod SaclBoundLaws
+pub mod TrailBoundLaws
+pub mod FileBoundLaws
 -- request 106
 pub mod FourMasksLaws
 -- what a reader of the page expects

@@ -1,9 +1,10 @@
 -- Request 102, lists without their inherit-only entries. The index: names-object skipped-taken run-object; what a list gives: gives-object
--- normal-object; all rules: judged-object ruled-object; the whole: confinement-object found-object answer-object. Assumes nothing.
+-- normal-object; all rules: judged-object ruled-object stages-object; the whole: confinement-object found-object ruled-on-object
+-- answer-object. Assumes nothing.
 use Prim.Native.Nat.{ℕ}
 use mathlib.Core.Path.{_≡_, refl, ap, _∙_}
 use mathlib.Core.List.{List, [], _∷_, map}
-use mathlib.Core.Bool.{Bool, true, false, cond, _&&_}
+use mathlib.Core.Bool.{Bool, true, false, cond, _&&_, _||_}
 use Rattle.base.specs.Bits.{has}
 use Rattle.base.specs.Bytes.{same}
 use Rattle.sids.specs.Sid.{ownerRights}
@@ -21,9 +22,12 @@ use Rattle.passes.specs.declared.matching.Hits.{Hits}
 use Rattle.masks.specs.declared.tally.Tally.{Tally}
 use Rattle.policy.specs.Rules.{Lists, rulesOf, narrowedBy, judgedBy, ruledFrom}
 use Rattle.policy.specs.declared.rules.Ruled.{Ruled}
-use Rattle.access.specs.Granted.{foundOf, answerOf}
-use Rattle.access.specs.Status.{Question, daclIn, checked}
-use Rattle.demands.specs.Accepted.{Accepted, tokenIn}
+use Rattle.audit.specs.Events.{ruleStages, stagesAudit}
+use Rattle.audit.specs.declared.firing.Sought.{Sought}
+use Rattle.access.specs.Granted.{foundOf, answerOf, soughtOf, flagged}
+use Rattle.access.specs.Status.{Question, daclIn, answerTo, checked}
+use Rattle.access.specs.declared.answer.Found.{Found}
+use Rattle.demands.specs.Accepted.{Accepted, tokenIn, ruledOn}
 use Rattle.demands.specs.OwnerEntries.{ofObject, objectList, objectLists, byObject}
 use Rattle.demands.proofs.AcceptedLaws.{accepted-is}
 
@@ -84,8 +88,23 @@ found-object kind t owner self d rs =
     let ruled = ruled-object kind (crowdOf t) h (t .privileges) rs in
     rw (normal-object kind (crowdOf t) h (t .privileges) d, confinement-object kind t owner self d, ruled _)
 
+-- the SACLs are those of before, and so is their audit
+stages-object : (s : Sought) (ms : List Member) (h : Hits) (rs : List Lists) →
+    stagesAudit s ms h rs ≡ stagesAudit s ms h (map objectLists rs)
+unfolding stagesAudit
+stages-object s ms h [] = refl
+stages-object s ms h (r ∷ rs) = ap (λ (b : Bool). ruleStages s ms h r || b) (stages-object s ms h rs)
+
+ruled-on-object : (kind mask : ℕ) (t : Token) (owner self : List ℕ) (d : Dacl) (rs : List Lists) →
+    ruledOn kind mask t owner self d rs ≡ ruledOn kind mask t owner self (objectList d) (map objectLists rs)
+ruled-on-object kind mask t owner self d rs =
+    let h = hitsOf (crowdOf t) owner self in
+    ap (λ (f : Found). flagged (answerOf kind mask f) (stagesAudit (soughtOf kind mask (answerOf kind mask f)) (crowdOf t) h rs))
+    (found-object kind t owner self d rs)
+    ∙ ap (flagged (answerOf kind mask (foundOf kind t owner self (objectList d) (map objectLists rs)))) (stages-object _ (crowdOf t) h rs)
+
 pub answer-object : (q : Question) → Accepted q → checked q ≡ byObject q
+unfolding answerTo
 answer-object q a =
     accepted-is q a
-    ∙ ap (answerOf (q .kind) (q .mask))
-    (found-object (q .kind) (tokenIn q) (ownerOf (q .descriptor)) (q .self) (daclIn (q .descriptor)) (rulesOf (q .policy)))
+    ∙ ruled-on-object (q .kind) (q .mask) (tokenIn q) (ownerOf (q .descriptor)) (q .self) (daclIn (q .descriptor)) (rulesOf (q .policy))

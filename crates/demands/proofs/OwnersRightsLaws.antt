@@ -28,10 +28,10 @@ use Rattle.passes.specs.Matching.{stands, hitsOf}
 use Rattle.passes.specs.NormalEvaluation.{Dacl, listed, namesOwner, listGives, ownerGives, privilegesGive, normalOf}
 use Rattle.passes.specs.Confinement.{everything, confinementOf}
 use Rattle.passes.specs.declared.matching.Hits.{Hits}
-use Rattle.policy.specs.Rules.{Lists, rulesOf, resultOf, ruled, appliesTo, narrowedBy, judgedBy, ruledFrom, ruledBy}
+use Rattle.policy.specs.Rules.{Lists, rulesOf, resultOf, unruled, appliesTo, narrowedBy, judgedBy, ruledFrom, ruledBy}
 use Rattle.policy.specs.declared.rules.Ruled.{Ruled}
 use Rattle.access.specs.Granted.{foundOf, answerOf}
-use Rattle.access.specs.Status.{Question, daclIn, checked}
+use Rattle.access.specs.Status.{Question, daclIn, answerTo, checked}
 use Rattle.access.specs.declared.answer.Answer.{Answer}
 use Rattle.demands.specs.Accepted.{Accepted, tokenIn}
 use Rattle.demands.specs.OwnerEntries.{OwnerEntry, GoesBy, OwnerAsks, ownersRights, itsList}
@@ -140,7 +140,7 @@ module _ (kind : ℕ) (t : Token) (owner self : List ℕ) (d : Dacl) (rs : List 
       within-both (and 0x60000 c) _ _
       (and-mono 0x60000 (by d) c c (list-keeps kind (crowdOf t) h (t .privileges) d o n) (within-refl c))
       (within-trans (and 0x60000 c) 0x60000 _ (and-within-l 0x60000 c)
-      (rules-leave kind (crowdOf t) h (t .privileges) 0x60000 rs (ruled everything 0) (and-within 0x60000 everything refl)
+      (rules-leave kind (crowdOf t) h (t .privileges) 0x60000 rs unruled (and-within 0x60000 everything refl)
       (λ before r after e a. list-keeps kind (crowdOf t) h (t .privileges) (listed (r .effective)) o (f before r after e a))))
 
   found-by-list : Within (foundOf kind t owner self d rs .ruled .0) (by d)
@@ -155,7 +155,7 @@ module _ (kind : ℕ) (t : Token) (owner self : List ℕ) (d : Dacl) (rs : List 
   unfolding foundOf
   found-by-rule before r after e a =
       let h = hitsOf (crowdOf t) owner self in
-      let one = rules-cut kind (crowdOf t) h (t .privileges) before r after (ruled everything 0) a in
+      let one = rules-cut kind (crowdOf t) h (t .privileges) before r after unruled a in
       let left = ruledBy kind (crowdOf t) h (t .privileges) (before ++ r ∷ after) .left .0 in
       rw e (within-trans _ left _ (and-within-r (and (by d) (confinementOf kind t owner self d)) left) one)
 
@@ -164,7 +164,7 @@ granted-found : (q : Question) → Accepted q →
     checked q .granted .0
     ≡ and (asked (q .kind) (q .mask))
     (foundOf (q .kind) (tokenIn q) (ownerOf (q .descriptor)) (q .self) (daclIn (q .descriptor)) (rulesOf (q .policy)) .ruled .0)
-unfolding answerOf
+unfolding answerTo answerOf
 granted-found q a = ap (λ (x : Answer). x .granted .0) (accepted-is q a)
 
 pub owner-keeps : (q : Question) → Accepted q → OwnerAsks q → ((d : Dacl) → GoesBy q d → OwnerEntry (d .entries) → ⊥) →

@@ -28,7 +28,7 @@ use Rattle.passes.proofs.MatchingLaws.{stands-virtual}
 use Rattle.passes.proofs.OnePassLaws.{passed-within}
 use Rattle.policy.specs.Rules.{Lists, rulesOf, ruledBy}
 use Rattle.access.specs.Granted.{foundOf, answerOf}
-use Rattle.access.specs.Status.{Question, daclIn, checked}
+use Rattle.access.specs.Status.{Question, daclIn, answerTo, checked}
 use Rattle.demands.specs.Accepted.{tokenIn, byRules}
 use Rattle.demands.proofs.StatusLaws.{granted-cases}
 
@@ -109,7 +109,7 @@ found-confined kind t owner self d rs =
     within-trans _ (and n c) c (and-within-l (and n c) (ruledBy kind (crowdOf t) h (t .privileges) rs .left .0)) (and-within-r n c)
 
 rules-confined : (q : Question) → Within (byRules q (tokenIn q) .granted .0) (confinedTo q)
-unfolding answerOf
+unfolding answerTo answerOf
 rules-confined q =
     within-trans _ _ (confinedTo q) (and-within-r (asked (q .kind) (q .mask)) _)
     (found-confined (q .kind) (tokenIn q) (ownerOf (q .descriptor)) (q .self) (daclIn (q .descriptor)) (rulesOf (q .policy)))

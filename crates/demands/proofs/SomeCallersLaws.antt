@@ -1,11 +1,11 @@
 -- Request 103. In order: every entry of an accepted list is conditioned (conditioned); an entry whose condition is false says nothing
 -- (silent), and with a true one it does what it would without (spoken); S-1-3-4 is named with any condition (owner-named); a stranger's
--- entry is struck out with any (stranger-struck); a rule that does not apply changes no answer (ruled-apart, found-apart, rule-apart).
--- Assumes nothing.
+-- entry is struck out with any (stranger-struck); a rule that does not apply changes no answer (ruled-apart, found-apart, stages-apart,
+-- ruled-on-apart, rule-apart). Assumes nothing.
 use Prim.Native.Nat.{ℕ, zero, suc}
 use mathlib.Core.Path.{_≡_, refl, sym, ap, subst, _∙_}
 use mathlib.Core.List.{List, [], _∷_, _++_}
-use mathlib.Core.Bool.{Bool, true, false, cond, and-false}
+use mathlib.Core.Bool.{Bool, true, false, cond, _||_, and-false}
 use Rattle.base.specs.Bytes.{u16At}
 use Rattle.base.proofs.BoolLaws.{true-false}
 use Rattle.conditions.specs.Condition.{shape}
@@ -26,9 +26,12 @@ use Rattle.passes.specs.declared.matching.Hits.{Hits}
 use Rattle.policy.specs.Rules.{Lists, appliesTo, judgedBy, ruledFrom}
 use Rattle.policy.specs.declared.rules.Ruled.{Ruled}
 use Rattle.policy.proofs.RulesSteps.{judged-passed}
-use Rattle.access.specs.Granted.{foundOf, answerOf}
-use Rattle.access.specs.Status.{Question, daclIn, checked}
-use Rattle.demands.specs.Accepted.{Accepted, tokenIn, byRules}
+use Rattle.audit.specs.Events.{ruleStages, stagesAudit}
+use Rattle.audit.specs.declared.firing.Sought.{Sought}
+use Rattle.access.specs.Granted.{foundOf, answerOf, soughtOf, flagged}
+use Rattle.access.specs.Status.{Question, daclIn, answerTo, checked}
+use Rattle.access.specs.declared.answer.Found.{Found}
+use Rattle.demands.specs.Accepted.{Accepted, tokenIn, byRules, ruledOn}
 use Rattle.demands.specs.Strangers.{known, struck, SameButOneRule}
 use Rattle.demands.specs.SomeCallers.{applies, Conditioned, conditionedBy}
 use Rattle.demands.proofs.AcceptedLaws.{accepted-is}
@@ -105,13 +108,30 @@ unfolding foundOf
 found-apart kind t owner self d before r after a =
     rw (ruled-apart kind (crowdOf t) (hitsOf (crowdOf t) owner self) (t .privileges) before r after _ a)
 
+stages-apart : (s : Sought) (ms : List Member) (h : Hits) (before : List Lists) (r : Lists) (after : List Lists) →
+    appliesTo ms h r ≡ false → stagesAudit s ms h (before ++ r ∷ after) ≡ stagesAudit s ms h (before ++ after)
+unfolding stagesAudit
+stages-apart s ms h [] r after a = rw (a, and-false _)
+stages-apart s ms h (x ∷ before) r after a = ap (λ (b : Bool). ruleStages s ms h x || b) (stages-apart s ms h before r after a)
+
+ruled-on-apart : (kind mask : ℕ) (t : Token) (owner self : List ℕ) (d : Dacl) (before : List Lists) (r : Lists) (after : List Lists) →
+    appliesTo (crowdOf t) (hitsOf (crowdOf t) owner self) r ≡ false →
+    ruledOn kind mask t owner self d (before ++ r ∷ after) ≡ ruledOn kind mask t owner self d (before ++ after)
+ruled-on-apart kind mask t owner self d before r after a =
+    let h = hitsOf (crowdOf t) owner self in
+    ap (λ (f : Found). flagged (answerOf kind mask f)
+    (stagesAudit (soughtOf kind mask (answerOf kind mask f)) (crowdOf t) h (before ++ r ∷ after)))
+    (found-apart kind t owner self d before r after a)
+    ∙ ap (flagged (answerOf kind mask (foundOf kind t owner self d (before ++ after)))) (stages-apart _ (crowdOf t) h before r after a)
+
 rules-apart : (p q : Question) (s : SameButOneRule p q) → applies p (s .policy .gained) ≡ false →
     byRules q (tokenIn q) ≡ byRules p (tokenIn p)
+unfolding answerTo
 rules-apart p q s a =
     let g = s .policy in
     rw (← s .kind, ← s .mask, ← s .token, ← s .self, ← s .descriptor, g .old, g .new)
-    (ap (answerOf (p .kind) (p .mask))
-    (found-apart (p .kind) (tokenIn p) (ownerOf (p .descriptor)) (p .self) (daclIn (p .descriptor)) (g .before) (g .gained) (g .after) a))
+    (ruled-on-apart (p .kind) (p .mask) (tokenIn p) (ownerOf (p .descriptor)) (p .self) (daclIn (p .descriptor)) (g .before) (g .gained)
+    (g .after) a)
 
 pub rule-apart : (p q : Question) → Accepted p → Accepted q → (s : SameButOneRule p q) → applies p (s .policy .gained) ≡ false →
     checked q ≡ checked p

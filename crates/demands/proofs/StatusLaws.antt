@@ -20,7 +20,7 @@ use Rattle.records.specs.TokenRecord.{readRecord}
 use Rattle.records.specs.TokenRules.{keeps}
 use Rattle.masks.specs.KindsAndMasks.{knownKind, legal, asked}
 use Rattle.access.specs.Granted.{answerOf}
-use Rattle.access.specs.Status.{Question, refused, selfFits, descriptorNumber, policyNumber, afterToken, withToken, checked}
+use Rattle.access.specs.Status.{Question, refused, selfFits, descriptorNumber, policyNumber, answerTo, afterToken, withToken, checked}
 use Rattle.demands.specs.Accepted.{Accepted, GrantsNothing, tokenIn, byRules}
 use Rattle.demands.specs.Conditions.{
   Line,
@@ -70,7 +70,7 @@ fromFive q =
     []
 
 after-status : (q : Question) (t : Token) → afterToken q t .status ≡ lowest (fromFive q)
-unfolding afterToken fromSelf answerOf
+unfolding afterToken fromSelf answerTo answerOf
 after-status q t =
     rw (descriptor-number-is (q .descriptor), policy-number-is (q .policy))
     (from-self (byRules q t) refl (selfFits (q .self)) (descriptorMisshapen (q .descriptor)) (ownerless (q .descriptor))
@@ -153,7 +153,7 @@ status-le q = rw (status-is q) (lowest-le 10 (conditions q) (omega arith))
 -- ---- "On refusal mask 0, allowed no, flag clear"
 
 refused-after : (q : Question) (t : Token) → (afterToken q t .status ≡ 0 → ⊥) → afterToken q t ≡ refused (afterToken q t .status)
-unfolding afterToken answerOf
+unfolding afterToken answerTo answerOf
 refused-after q t n = go (selfFits (q .self)) (eqb (descriptorNumber (q .descriptor)) 0) (eqb (policyNumber (q .policy)) 0) n
   where
     inner : Bool → Bool → Bool → Answer
@@ -204,5 +204,5 @@ granted-cases q m w = go (eqb (checked q .status) 0) refl
     go false e = rw (refused-nothing q (eqb-false _ _ e)) (zero-within m)
 
 pub granted-asked : (q : Question) → Within (checked q .granted .0) (asked (q .kind) (q .mask))
-unfolding answerOf
+unfolding answerTo answerOf
 granted-asked q = granted-cases q (asked (q .kind) (q .mask)) (and-within-l (asked (q .kind) (q .mask)) _)

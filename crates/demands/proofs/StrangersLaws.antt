@@ -1,94 +1,32 @@
--- Demand 3, first half: entries of strangers change no answer. The index, from one identity up to the answer:
--- a stranger: known-false. It matches nobody: among-groups among-listed stranger-crowd stranger-confined.
--- A list without its strangers: taken-stranger run-struck names-struck; two lists that read the same without: passed-alike normal-alike.
--- The whole: ruled-alike found-alike answer-strangers. Assumes nothing.
+-- Demand 3, first half: entries of strangers change no answer, and no event but in its entry number. The index, from a list up to the
+-- answer: a list without its strangers: taken-stranger run-struck names-struck; two lists that read the same without: passed-alike
+-- normal-alike. The whole: ruled-alike found-alike lists-alike rules-alike answer-strangers events-strangers. Not here: that a stranger
+-- matches nobody, UnknownLaws; SACLs, AuditStrangersLaws. Assumes nothing.
 use Prim.Native.Nat.{ℕ}
 use mathlib.Core.Path.{_≡_, refl, sym, ap, _∙_}
-use mathlib.Core.List.{List, [], _∷_, map}
-use mathlib.Core.Bool.{Bool, true, false, cond, _&&_, _||_}
-use native.Mathlib.Omega.{arith}
-use Rattle.base.specs.Bytes.{same}
-use Rattle.sids.specs.Sid.{ownerRights, principalSelf}
+use mathlib.Core.List.{List, [], _∷_}
+use mathlib.Core.Bool.{Bool, true, false, cond, _&&_}
 use Rattle.lists.specs.Acl.{Entry}
-use Rattle.lists.specs.Descriptor.{ownerOf}
-use Rattle.records.specs.Token.{Group, Token}
-use Rattle.records.specs.Crowd.{Member, plain, shown, crowdOf, confinedOf}
-use Rattle.records.specs.TokenRules.{lists}
-use Rattle.passes.specs.Matching.{among, hitsOf, matches}
+use Rattle.lists.specs.Descriptor.{ownerOf, saclOf}
+use Rattle.records.specs.Token.{Token}
+use Rattle.records.specs.Crowd.{Member, crowdOf, confinedOf}
+use Rattle.passes.specs.Matching.{hitsOf}
 use Rattle.passes.specs.OnePass.{skipped, taken, run, passed}
 use Rattle.passes.specs.NormalEvaluation.{Dacl, listed, counts, namesOwner, listGives, normalOf}
 use Rattle.passes.specs.Confinement.{confinementOf}
 use Rattle.passes.specs.declared.matching.Hits.{Hits}
 use Rattle.masks.specs.declared.tally.Tally.{Tally}
-use Rattle.policy.specs.Rules.{Lists, rulesOf, ruledFrom, narrowedBy, judgedBy}
+use Rattle.policy.specs.Rules.{Lists, rulesOf, unruled, appliesTo, narrowedBy, judgedBy, ruledFrom}
 use Rattle.policy.specs.declared.rules.Ruled.{Ruled}
-use Rattle.access.specs.Granted.{foundOf, answerOf}
-use Rattle.access.specs.Status.{Question, daclIn, checked}
-use Rattle.demands.specs.Accepted.{Accepted, tokenIn, byRules}
-use Rattle.demands.specs.Strangers.{inGroups, known, struck, AlikeRule, AlikeRules, SameButStrangers}
+use Rattle.access.specs.Granted.{foundOf, answerOf, flagged}
+use Rattle.access.specs.Status.{Question, daclIn, byLists, soughtFor, hitsFor, raisedFor, answerTo, checked}
+use Rattle.access.specs.declared.answer.Answer.{Answer}
+use Rattle.demands.specs.Accepted.{Accepted, tokenIn, byRules, eventsGiven}
+use Rattle.demands.specs.Strangers.{known, struck, AlikeRule, AlikeRules, SameButStrangers, unnumbered}
 use Rattle.demands.specs.Strangers.AlikeRules.{no-rules, one-more}
 use Rattle.demands.proofs.AcceptedLaws.{accepted-is}
-
--- ---- a stranger
-
-record Stranger (t : Token) (w : List ℕ) : Type 0 where
-  user : same (t .user) w ≡ false
-  group : inGroups w (t .groups) ≡ false
-  confinement : same (t .confinement .identity) w ≡ false
-  capability : lists w (t .confinement .capabilities) ≡ false
-  owner : same w ownerRights ≡ false
-  me : same w principalSelf ≡ false
-
-or-false : (x y : Bool) → (x || y) ≡ false → (x ≡ false) × (y ≡ false)
-or-false true y e = let z : _≡_ {A = ℕ} 0 1 = cc in absurd (omega arith)
-or-false false y e = (refl, e)
-
-known-false : (t : Token) (w : List ℕ) → known t w ≡ false → Stranger t w
-unfolding known
-known-false t w e =
-    let a = or-false _ _ e in
-    let b = or-false _ _ (a .0) in
-    let c = or-false _ _ (b .0) in
-    let d = or-false _ _ (c .0) in
-    let v = or-false _ _ (a .1) in
-    record { user = d .0; group = d .1; confinement = c .1; capability = b .1; owner = v .0; me = v .1 }
-
--- ---- it matches nobody
-
-abbrev members : List Group → List Member
-members gs = map (λ (g : Group). shown (g .sid) (g .attributes)) gs
-
-among-groups : (allow : Bool) (w : List ℕ) (gs : List Group) → inGroups w gs ≡ false → among allow (members gs) w ≡ false
-unfolding among inGroups
-among-groups allow w [] e = refl
-among-groups allow w (g ∷ gs) e = go (among-groups allow w gs) (same (g .sid) w) refl e
-  where
-    go : (inGroups w gs ≡ false → among allow (members gs) w ≡ false) → (b : Bool) → same (g .sid) w ≡ b →
-        cond b true (inGroups w gs) ≡ false → among allow (members (g ∷ gs)) w ≡ false
-    go rest true p f = let z : _≡_ {A = ℕ} 0 1 = cc in absurd (omega arith)
-    go rest false p f = rw p (rest f)
-
-among-listed : (allow : Bool) (w : List ℕ) (ws : List (List ℕ)) → lists w ws ≡ false → among allow (map plain ws) w ≡ false
-unfolding among lists
-among-listed allow w [] e = refl
-among-listed allow w (x ∷ ws) e = go (among-listed allow w ws) (same x w) refl e
-  where
-    go : (lists w ws ≡ false → among allow (map plain ws) w ≡ false) → (b : Bool) → same x w ≡ b →
-        cond b true (lists w ws) ≡ false → among allow (map plain (x ∷ ws)) w ≡ false
-    go rest true p f = let z : _≡_ {A = ℕ} 0 1 = cc in absurd (omega arith)
-    go rest false p f = rw p (rest f)
-
--- what a crowd does not match, where it knows nobody but those of a token
-Deaf : Token → List Member → Type 0
-Deaf t ms = (h : Hits) (allow : Bool) (w : List ℕ) → Stranger t w → matches allow ms h w ≡ false
-
-deaf-crowd : (t : Token) → Deaf t (crowdOf t)
-unfolding Deaf matches among
-deaf-crowd t h allow w s = rw (s .owner, s .me, s .user) (among-groups allow w (t .groups) (s .group))
-
-deaf-confined : (t : Token) → Deaf t (confinedOf t)
-unfolding Deaf matches among
-deaf-confined t h allow w s = rw (s .owner, s .me, s .confinement) (among-listed allow w (t .confinement .capabilities) (s .capability))
+use Rattle.demands.proofs.UnknownLaws.{Stranger, known-false, Deaf, deaf-crowd, deaf-confined}
+use Rattle.demands.proofs.AuditStrangersLaws.{stages-alike, events-alike}
 
 -- ---- a list without its strangers
 
@@ -139,24 +77,34 @@ names-alike t es fs e = names-struck t es ∙ ap namesOwner e ∙ sym (names-str
 
 -- ---- the whole
 
+-- what an answer goes by: the bits left and those that differ, and not which SACLs were met
+record Agree (x y : Ruled) : Type 0 where
+  left : x .left ≡ y .left
+  differ : x .differ ≡ y .differ
+
 module _ (kind : ℕ) (t : Token) (h : Hits) (p : ℕ) where
   normal-alike : (d e : Dacl) → d .present ≡ e .present → struck t (d .entries) ≡ struck t (e .entries) →
       normalOf kind (crowdOf t) h p d ≡ normalOf kind (crowdOf t) h p e
   unfolding normalOf
   normal-alike d e x y = rw (gives-alike kind t (crowdOf t) (deaf-crowd t) h d e x y, names-alike t (d .entries) (e .entries) y)
 
-  judged-alike : (st : Ruled) (r q : Lists) → AlikeRule t r q → judgedBy kind (crowdOf t) h p st r ≡ judgedBy kind (crowdOf t) h p st q
+  judged-alike : (x y : Ruled) (r q : Lists) → Agree x y → AlikeRule t r q →
+      Agree (judgedBy kind (crowdOf t) h p x r) (judgedBy kind (crowdOf t) h p y q)
   unfolding judgedBy narrowedBy
-  judged-alike st r q a =
-      let effective = normal-alike (listed (r .effective)) (listed (q .effective)) refl (a .effective) in
-      let staged = normal-alike (listed (r .staged)) (listed (q .staged)) refl (a .staged) in
-      rw (effective, staged, a .stages, a .applies)
+  judged-alike x y r q g a = rw (a .applies) (go (appliesTo (crowdOf t) h q))
+    where
+      go : (b : Bool) → Agree (cond b (narrowedBy kind (crowdOf t) h p x r) x) (cond b (narrowedBy kind (crowdOf t) h p y q) y)
+      go true =
+          let effective = normal-alike (listed (r .effective)) (listed (q .effective)) refl (a .effective) in
+          let staged = normal-alike (listed (r .staged)) (listed (q .staged)) refl (a .staged) in
+          record { left = rw (effective, g .left); differ = rw (effective, staged, a .stages, g .differ) }
+      go false = g
 
-  ruled-alike : {rs qs : List Lists} → AlikeRules t rs qs → (st : Ruled) →
-      ruledFrom kind (crowdOf t) h p st rs ≡ ruledFrom kind (crowdOf t) h p st qs
+  ruled-alike : {rs qs : List Lists} → AlikeRules t rs qs → (x y : Ruled) → Agree x y →
+      Agree (ruledFrom kind (crowdOf t) h p x rs) (ruledFrom kind (crowdOf t) h p y qs)
   unfolding ruledFrom
-  ruled-alike no-rules st = refl
-  ruled-alike (one-more {r = r} {q = q} a rest) st = rw (judged-alike st r q a) (ruled-alike rest _)
+  ruled-alike no-rules x y g = g
+  ruled-alike (one-more {r = r} {q = q} a rest) x y g = ruled-alike rest _ _ (judged-alike x y r q g a)
 
 confinement-alike : (kind : ℕ) (t : Token) (owner self : List ℕ) (d e : Dacl) → d .present ≡ e .present →
     struck t (d .entries) ≡ struck t (e .entries) → confinementOf kind t owner self d ≡ confinementOf kind t owner self e
@@ -164,21 +112,42 @@ unfolding confinementOf
 confinement-alike kind t owner self d e x y =
     rw (gives-alike kind t (confinedOf t) (deaf-confined t) (hitsOf (confinedOf t) owner self) d e x y)
 
-found-alike : (kind : ℕ) (t : Token) (owner self : List ℕ) (d e : Dacl) (rs qs : List Lists) → d .present ≡ e .present →
-    struck t (d .entries) ≡ struck t (e .entries) → AlikeRules t rs qs → foundOf kind t owner self d rs ≡ foundOf kind t owner self e qs
-unfolding foundOf
-found-alike kind t owner self d e rs qs x y z =
+-- what is found may differ in whether a rule has a SACL, and is read off alike for every mask
+found-alike : (kind mask : ℕ) (t : Token) (owner self : List ℕ) (d e : Dacl) (rs qs : List Lists) → d .present ≡ e .present →
+    struck t (d .entries) ≡ struck t (e .entries) → AlikeRules t rs qs →
+    answerOf kind mask (foundOf kind t owner self d rs) ≡ answerOf kind mask (foundOf kind t owner self e qs)
+unfolding foundOf answerOf
+found-alike kind mask t owner self d e rs qs x y z =
     let h = hitsOf (crowdOf t) owner self in
-    let ruled = ruled-alike kind t h (t .privileges) z in
-    rw (normal-alike kind t h (t .privileges) d e x y, confinement-alike kind t owner self d e x y, ruled _)
+    let ruled = ruled-alike kind t h (t .privileges) z unruled unruled (record { left = refl; differ = refl }) in
+    rw (normal-alike kind t h (t .privileges) d e x y, confinement-alike kind t owner self d e x y, ruled .left, ruled .differ)
+
+-- and so is the answer by the access lists
+lists-alike : (p q : Question) → SameButStrangers p q → byLists p (tokenIn p) ≡ byLists q (tokenIn q)
+lists-alike p q s =
+    rw (← s .kind, ← s .mask, ← s .token, ← s .self, ← s .owner)
+    (found-alike (p .kind) (p .mask) (tokenIn p) (ownerOf (p .descriptor)) (p .self) (daclIn (p .descriptor)) (daclIn (q .descriptor))
+    (rulesOf (p .policy)) (rulesOf (q .policy)) (s .present) (s .list) (s .rules))
+
+-- the audit goes by the same, once the answer by the lists is
+pub sought-alike : (p q : Question) → SameButStrangers p q → soughtFor p (tokenIn p) ≡ soughtFor q (tokenIn q)
+sought-alike p q s = rw (lists-alike p q s, s .kind, s .mask)
 
 rules-alike : (p q : Question) → SameButStrangers p q → byRules p (tokenIn p) ≡ byRules q (tokenIn q)
+unfolding answerTo
 rules-alike p q s =
-    rw (← s .kind, ← s .mask, ← s .token, ← s .self, ← s .owner)
-    (ap (answerOf (p .kind) (p .mask))
-    (found-alike (p .kind) (tokenIn p) (ownerOf (p .descriptor)) (p .self) (daclIn (p .descriptor)) (daclIn (q .descriptor))
-    (rulesOf (p .policy))
-    (rulesOf (q .policy)) (s .present) (s .list) (s .rules)))
+    ap (λ (a : Answer). flagged a (raisedFor p (tokenIn p))) (lists-alike p q s)
+    ∙ ap (flagged (byLists q (tokenIn q)))
+    (rw (sought-alike p q s, ← s .token, ← s .self, ← s .owner) (stages-alike _ (tokenIn p) (hitsFor p (tokenIn p)) (s .rules)))
 
 pub answer-strangers : (p q : Question) → Accepted p → Accepted q → SameButStrangers p q → checked p ≡ checked q
 answer-strangers p q a b s = accepted-is p a ∙ rules-alike p q s ∙ sym (accepted-is q b)
+
+pub events-strangers : (p q : Question) → SameButStrangers p q → unnumbered (eventsGiven p) ≡ unnumbered (eventsGiven q)
+events-strangers p q s =
+    rw (sought-alike p q s, ← s .token, ← s .self, ← s .owner)
+    (events-alike _ (tokenIn p) (hitsFor p (tokenIn p)) (saclOf (p .descriptor)) (saclOf (q .descriptor)) (s .sacl) (s .rules))
+
+pub strangers-both : (p q : Question) → Accepted p → Accepted q → SameButStrangers p q →
+    (checked p ≡ checked q) × (unnumbered (eventsGiven p) ≡ unnumbered (eventsGiven q))
+strangers-both p q a b s = (answer-strangers p q a b s, events-strangers p q s)

@@ -13,5 +13,7 @@ pub mod LongEntries
 pub mod OwnerEntries
 -- request 103's words: rules that apply to the asker, and conditions of entries
 pub mod SomeCallers
+-- request 105's words: the table for a check that lends a buffer for its trail
+pub mod Trails
 -- request 106's words: the four masks, and the step that takes a bit
 pub mod FourMasks

@@ -12,10 +12,9 @@ use Rattle.passes.specs.Matching.{stands, hitsOf}
 use Rattle.passes.specs.NormalEvaluation.{Dacl, listed, listGives}
 use Rattle.passes.specs.Confinement.{confinementOf}
 use Rattle.policy.specs.Rules.{Lists, rulesOf}
-use Rattle.access.specs.Granted.{foundOf, answerOf}
 use Rattle.access.specs.Status.{Question, daclIn}
 use Rattle.access.specs.declared.answer.Answer.{Answer}
-use Rattle.demands.specs.Accepted.{tokenIn}
+use Rattle.demands.specs.Accepted.{tokenIn, ruledOn}
 use Rattle.demands.specs.SomeCallers.{applies}
 
 -- ---- an entry that counts
@@ -63,11 +62,17 @@ objectList d = record { present = d .present; entries = ofObject (d .entries) }
 
 abbrev pub objectLists : Lists → Lists
 objectLists r =
-    record { applies = r .applies; effective = ofObject (r .effective); stages = r .stages; staged = ofObject (r .staged) }
+    record {
+      applies = r .applies;
+      effective = ofObject (r .effective);
+      stages = r .stages;
+      staged = ofObject (r .staged);
+      sacl = r .sacl;
+      stagedSacl = r .stagedSacl;
+    }
 
--- the answer of the rules with every list so: the descriptor's, each rule's effective and staged one
+-- the answer of the rules with every list so: the descriptor's, each rule's effective and staged one. The SACLs stay as they are
 abbrev pub byObject : Question → Answer
 byObject q =
-    answerOf (q .kind) (q .mask)
-    (foundOf (q .kind) (tokenIn q) (ownerOf (q .descriptor)) (q .self) (objectList (daclIn (q .descriptor)))
-    (map objectLists (rulesOf (q .policy))))
+    ruledOn (q .kind) (q .mask) (tokenIn q) (ownerOf (q .descriptor)) (q .self) (objectList (daclIn (q .descriptor)))
+    (map objectLists (rulesOf (q .policy)))

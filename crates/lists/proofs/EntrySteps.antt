@@ -1,7 +1,7 @@
 -- What an entry is, and what all are, by each test in its order. For `holds`, `entry_end`, `content`, `scan_all` and
 -- `ace_at`.
--- In order: an entry's body (holds-..), the whole entry (entry-end-..), the walk over all entries (Left, scan-..), what an entry holds
--- (content-..), the entry that the code reads (found, ace-at-..).
+-- In order: an entry's body (holds-..), the whole entry (entry-end-..; judged-.. in a DACL or SACL), the walk over all entries (Left,
+-- scan-..), what an entry holds (content-..), the entry that the code reads (found, ace-at-..).
 -- Not here: headings, AclSteps; what an accepted list is, AclLaws. Assumes nothing.
 use Prim.Native.Nat.{ℕ, suc, _+_, _-_, _*_, _<_, _≤_}
 use mathlib.Core.Path.{_≡_, refl, sym, ap, _∙_}
@@ -15,13 +15,14 @@ use Rattle.base.specs.Bytes.{byteAt, u16At, u32At, part}
 use Rattle.sids.specs.Sid.{sidEnd}
 use Rattle.conditions.specs.Scanning.{isBroken, isForeign}
 use Rattle.conditions.specs.Condition.{shape}
-use Rattle.lists.specs.Acl.{headEnd, callback, named, fitting, holds, entryEnd, contentOf, shaped, foreign, scanned, scanOf, noAce}
-use Rattle.lists.specs.Acl.{aceAt}
+use Rattle.lists.specs.Acl.{headEnd, callback, named, audits, judges, fitting, holds, entryEnd, contentOf, shaped, foreign}
+use Rattle.lists.specs.Acl.{scanned, scanOf, noAce, aceAt}
 use Rattle.lists.specs.declared.acl.Ace.{Ace}
 use Rattle.conditions.specs.declared.scan.Scan.{Scan}
 use Rattle.conditions.specs.declared.scan.Scan.the-variants.{Broken, Foreign, Plain}
 use Rattle.sids.proofs.SidLaws.{sid-end-other, sid-end-many, sid-end-cut, sid-end-whole, sid-end-bounds}
 use Rattle.lists.proofs.AclSteps.{head-end-bounds}
+use Rattle.lists.proofs.TypeLaws.{judges-deep, judges-shallow}
 
 -- ---- an entry's body, and the whole entry
 
@@ -89,7 +90,7 @@ picked false u e h = refl
 module _ (deep : Bool) (l : List ℕ) (at : ℕ) where
   pub entry-end-none : headEnd l at ≡ 0 → entryEnd deep l at ≡ 0
   unfolding entryEnd
-  entry-end-none h = go (deep && named (byteAt l at)) (holds l at (headEnd l at))
+  entry-end-none h = go (judges deep (byteAt l at)) (holds l at (headEnd l at))
     where
       go : (t u : Bool) → cond t (cond u (headEnd l at) 0) (headEnd l at) ≡ 0
       go true true = h
@@ -98,15 +99,15 @@ module _ (deep : Bool) (l : List ℕ) (at : ℕ) where
 
   pub entry-end-is : (entryEnd deep l at ≡ 0 → ⊥) → entryEnd deep l at ≡ headEnd l at
   unfolding entryEnd
-  entry-end-is h = picked (deep && named (byteAt l at)) (holds l at (headEnd l at)) (headEnd l at) h
+  entry-end-is h = picked (judges deep (byteAt l at)) (holds l at (headEnd l at)) (headEnd l at) h
 
-  pub entry-end-foreign : named (byteAt l at) ≡ false → entryEnd deep l at ≡ headEnd l at
+  pub entry-end-foreign : judges deep (byteAt l at) ≡ false → entryEnd deep l at ≡ headEnd l at
   unfolding entryEnd
-  entry-end-foreign h = rw h (go deep)
-    where
-      go : (t : Bool) → cond (t && false) (cond (holds l at (headEnd l at)) (headEnd l at) 0) (headEnd l at) ≡ headEnd l at
-      go true = refl
-      go false = refl
+  entry-end-foreign h = rw h
+
+  pub entry-end-judged : judges deep (byteAt l at) ≡ true → entryEnd deep l at ≡ cond (holds l at (headEnd l at)) (headEnd l at) 0
+  unfolding entryEnd
+  entry-end-judged h = rw h
 
   pub entry-end-bounds : (entryEnd deep l at ≡ 0 → ⊥) → (at + 4 ≤ entryEnd deep l at) × (entryEnd deep l at ≤ length l)
   entry-end-bounds h =
@@ -116,19 +117,45 @@ module _ (deep : Bool) (l : List ℕ) (at : ℕ) where
       let b1 : headEnd l at ≤ length l = b .1 in
       (omega arith, omega arith)
 
-pub entry-end-shallow : (l : List ℕ) (at : ℕ) → entryEnd false l at ≡ headEnd l at
-unfolding entryEnd
-entry-end-shallow l at = refl
+  -- an entry that is judged and well shaped holds a SID, which ends inside it
+  module _ (j : judges deep (byteAt l at) ≡ true) (h : entryEnd deep l at ≡ 0 → ⊥) where
+    judged-holds : holds l at (entryEnd deep l at) ≡ true
+    judged-holds = go (holds l at (headEnd l at)) refl
+      where
+        go : (t : Bool) → holds l at (headEnd l at) ≡ t → holds l at (entryEnd deep l at) ≡ true
+        go true q = ap (holds l at) (entry-end-is h) ∙ q
+        go false q = absurd (h (rw (entry-end-judged j, q) refl))
 
-pub entry-end-named : (l : List ℕ) (at : ℕ) → named (byteAt l at) ≡ true →
-    entryEnd true l at ≡ cond (holds l at (headEnd l at)) (headEnd l at) 0
-unfolding entryEnd
-entry-end-named l at h = rw h
+    pub judged-sid : sidEnd l (at + 8) ≡ 0 → ⊥
+    judged-sid q =
+        let f = holds-none l at (entryEnd deep l at) q in
+        let t = judged-holds in
+        let z : _≡_ {A = ℕ} 0 1 = cc in
+        omega arith
 
--- an entry of one of the four types whose SID ends inside it is well shaped
-pub entry-end-whole : (l : List ℕ) (at : ℕ) → named (byteAt l at) ≡ true → (sidEnd l (at + 8) ≡ 0 → ⊥) → sidEnd l (at + 8) ≤ headEnd l at →
-    entryEnd true l at ≡ headEnd l at
-entry-end-whole l at n h k = entry-end-named l at n ∙ rw (holds-inside l at (headEnd l at) h k) refl
+    pub judged-fits : sidEnd l (at + 8) ≤ entryEnd deep l at
+    judged-fits = holds-fits l at (entryEnd deep l at) judged-sid judged-holds
+
+module _ (l : List ℕ) (at : ℕ) where
+  -- in a SACL only audit entries are judged
+  pub entry-end-shallow : audits (byteAt l at) ≡ false → entryEnd false l at ≡ headEnd l at
+  entry-end-shallow a = entry-end-foreign false l at (judges-shallow (byteAt l at) ∙ a)
+
+  -- in a DACL, an entry of one of the four types
+  module _ (n : named (byteAt l at) ≡ true) where
+    pub entry-end-named : entryEnd true l at ≡ cond (holds l at (headEnd l at)) (headEnd l at) 0
+    entry-end-named = entry-end-judged true l at (judges-deep (byteAt l at) ∙ n)
+
+    -- whose SID ends inside it is well shaped
+    pub entry-end-whole : (sidEnd l (at + 8) ≡ 0 → ⊥) → sidEnd l (at + 8) ≤ headEnd l at → entryEnd true l at ≡ headEnd l at
+    entry-end-whole h k = entry-end-named ∙ rw (holds-inside l at (headEnd l at) h k) refl
+
+    -- and the other way
+    pub entry-end-sid : (entryEnd true l at ≡ 0 → ⊥) → sidEnd l (at + 8) ≡ 0 → ⊥
+    entry-end-sid = judged-sid true l at (judges-deep (byteAt l at) ∙ n)
+
+    pub entry-end-fits : (entryEnd true l at ≡ 0 → ⊥) → sidEnd l (at + 8) ≤ entryEnd true l at
+    entry-end-fits = judged-fits true l at (judges-deep (byteAt l at) ∙ n)
 
 -- ---- the walk over all entries
 
@@ -244,21 +271,3 @@ module _ (l : List ℕ) (at : ℕ) where
       })
       (aceAt l at)
   ace-at-made m t e p q r n h = rw (p, q, r) (sym (ace-at-some n h))
-
-  -- an entry of one of the four types that is well shaped holds a SID
-  pub entry-end-holds : named (byteAt l at) ≡ true → (entryEnd true l at ≡ 0 → ⊥) → holds l at (entryEnd true l at) ≡ true
-  entry-end-holds n h = go (holds l at (headEnd l at)) refl
-    where
-      go : (t : Bool) → holds l at (headEnd l at) ≡ t → holds l at (entryEnd true l at) ≡ true
-      go true q = ap (holds l at) (entry-end-is true l at h) ∙ q
-      go false q = absurd (h (rw (entry-end-named l at n, q) refl))
-
-  pub entry-end-sid : named (byteAt l at) ≡ true → (entryEnd true l at ≡ 0 → ⊥) → sidEnd l (at + 8) ≡ 0 → ⊥
-  entry-end-sid n h q =
-      let f = holds-none l at (entryEnd true l at) q in
-      let t = entry-end-holds n h in
-      let z : _≡_ {A = ℕ} 0 1 = cc in
-      omega arith
-
-  pub entry-end-fits : named (byteAt l at) ≡ true → (entryEnd true l at ≡ 0 → ⊥) → sidEnd l (at + 8) ≤ entryEnd true l at
-  entry-end-fits n h = holds-fits l at (entryEnd true l at) (entry-end-sid n h) (entry-end-holds n h)

@@ -12,7 +12,7 @@ use Rattle.base.proofs.BoolLaws.{true-false}
 use Rattle.lists.specs.Acl.{headEnd, holds, entryEnd, contentOf, shaped, foreign, scanned, scanOf}
 use Rattle.lists.specs.Simple.{fitsAs, simpleAt, simple}
 use Rattle.conditions.specs.declared.scan.Scan.the-variants.{Plain}
-use Rattle.lists.proofs.TypeLaws.{callback-low, named-low}
+use Rattle.lists.proofs.TypeLaws.{callback-low, named-low, audits-low}
 use Rattle.lists.proofs.EntrySteps.{entry-end-shallow, entry-end-named, content-plain}
 
 -- ---- the entries, one by one
@@ -54,7 +54,7 @@ module _ (deep : Bool) (l : List ℕ) (m k at : ℕ) where
 entry-simple : (deep : Bool) (l : List ℕ) (at : ℕ) → byteAt l at < 2 → fitsAs deep l at (headEnd l at) ≡ true →
     entryEnd deep l at ≡ headEnd l at
 entry-simple true l at n f = entry-end-named l at (named-low (byteAt l at) n) ∙ rw f refl
-entry-simple false l at n f = entry-end-shallow l at
+entry-simple false l at n f = entry-end-shallow l at (audits-low (byteAt l at) n)
 
 walked : (deep : Bool) (l : List ℕ) (n at : ℕ) → simpleAt deep l n at ≡ true → (shaped deep l n at ≡ true) × (foreign deep l n at ≡ false)
 unfolding simpleAt shaped foreign

@@ -1,4 +1,5 @@
--- Entries with spare bytes or without (request 101): which entries with a SID are well shaped (long-enough), the heading of one
+-- Entries with spare bytes or without (request 101): which entries with a SID are well shaped (long-enough, and in a SACL
+-- audit-enough), the heading of one
 -- (entry-head), where the next begins and where it lies (ace-next, ace-bounds, read-fits, ace-past), and what the entries of an accepted
 -- list say (entries-said).
 -- Not here: that nothing else is read, AlikeLaws. Assumes nothing.
@@ -11,13 +12,15 @@ use native.Mathlib.Omega.{arith}
 use lib.ListN.{length}
 use Rattle.base.specs.Bytes.{byteAt, u16At, part}
 use Rattle.sids.specs.Sid.{sidEnd}
-use Rattle.lists.specs.Acl.{callback, headEnd, named, entryEnd, scanOf, Entry, aceAt, entryOf, entriesAt, entriesOf}
+use Rattle.lists.specs.Acl.{callback, headEnd, named, audits, judges, entryEnd, scanOf, Entry, aceAt, entryOf, entriesAt, entriesOf}
 use Rattle.lists.specs.Spare.{LongEnough, saidAt, readTo}
 use Rattle.lists.specs.declared.acl.Ace.{Ace}
 use Rattle.conditions.specs.declared.scan.Scan.the-variants.{Plain}
 use Rattle.sids.proofs.SidLaws.{sid-end-bounds}
 use Rattle.lists.proofs.AclSteps.{HeadAt, head-at, head-end-short, head-end-whole}
-use Rattle.lists.proofs.EntrySteps.{entry-end-none, entry-end-is, entry-end-bounds, entry-end-whole, entry-end-sid, entry-end-fits}
+use Rattle.lists.proofs.TypeLaws.{judges-deep, judges-shallow}
+use Rattle.lists.proofs.EntrySteps.{holds-inside, entry-end-none, entry-end-is, entry-end-judged, entry-end-bounds, judged-sid, judged-fits}
+use Rattle.lists.proofs.EntrySteps.{entry-end-sid, entry-end-fits}
 use Rattle.lists.proofs.EntrySteps.{found, ace-at-none, ace-at-some}
 use Rattle.lists.proofs.AclLaws.{ace-found, entries-more, Plainly, plain-of-scan, plain-more}
 
@@ -27,26 +30,36 @@ use Rattle.lists.proofs.AclLaws.{ace-found, entries-more, Plainly, plai
 pub entry-head : (l : List ℕ) (at : ℕ) → (entryEnd true l at ≡ 0 → ⊥) → HeadAt l at
 entry-head l at h = head-at l at (λ z. h (entry-end-is true l at h ∙ z))
 
-long-of-shaped : (l : List ℕ) (at : ℕ) → named (byteAt l at) ≡ true → (entryEnd true l at ≡ 0 → ⊥) → LongEnough l at
-long-of-shaped l at n h =
-    let a : HeadAt l at = entry-head l at h in
-    let e : entryEnd true l at ≡ headEnd l at = entry-end-is true l at h in
-    let f : sidEnd l (at + 8) ≤ entryEnd true l at = entry-end-fits l at n h in
-    let b = sid-end-bounds l (at + 8) (entry-end-sid l at n h) in
-    record { sid = entry-end-sid l at n h; size = omega (arith, b .0); four = a .four; inside = a .whole }
+module _ (deep : Bool) (l : List ℕ) (at : ℕ) (n : judges deep (byteAt l at) ≡ true) where
+  long-of-shaped : (entryEnd deep l at ≡ 0 → ⊥) → LongEnough l at
+  long-of-shaped h =
+      let e : entryEnd deep l at ≡ headEnd l at = entry-end-is deep l at h in
+      let a : HeadAt l at = head-at l at (λ z. h (e ∙ z)) in
+      let f : sidEnd l (at + 8) ≤ entryEnd deep l at = judged-fits deep l at n h in
+      let b = sid-end-bounds l (at + 8) (judged-sid deep l at n h) in
+      record { sid = judged-sid deep l at n h; size = omega (arith, b .0); four = a .four; inside = a .whole }
 
-shaped-of-long : (l : List ℕ) (at : ℕ) → named (byteAt l at) ≡ true → LongEnough l at → entryEnd true l at ≡ 0 → ⊥
-shaped-of-long l at n w z =
-    let b = sid-end-bounds l (at + 8) (w .sid) in
-    let b0 : at + 8 + 8 ≤ sidEnd l (at + 8) = b .0 in
-    let m : 4 ≤ u16At l (at + 2) = omega (arith, w .size) in
-    let e : headEnd l at ≡ at + u16At l (at + 2) = head-end-whole l at (w .four) m (w .inside) in
-    let q : entryEnd true l at ≡ headEnd l at = entry-end-whole l at n (w .sid) (omega (arith, w .size)) in
-    omega arith
+  shaped-of-long : LongEnough l at → entryEnd deep l at ≡ 0 → ⊥
+  shaped-of-long w z =
+      let b = sid-end-bounds l (at + 8) (w .sid) in
+      let b0 : at + 8 + 8 ≤ sidEnd l (at + 8) = b .0 in
+      let m : 4 ≤ u16At l (at + 2) = omega (arith, w .size) in
+      let e : headEnd l at ≡ at + u16At l (at + 2) = head-end-whole l at (w .four) m (w .inside) in
+      let k : sidEnd l (at + 8) ≤ headEnd l at = omega (arith, w .size) in
+      let q : entryEnd deep l at ≡ headEnd l at =
+      entry-end-judged deep l at n ∙ rw (holds-inside l at (headEnd l at) (w .sid) k) refl in
+      omega arith
 
--- an entry with a SID is well shaped exactly when its size is 8 plus its SID's length or more, a multiple of 4, and inside the list
+  -- an entry that is judged is well shaped exactly when its size is 8 plus its SID's length or more, a multiple of 4, and inside the list
+  long-judged : (entryEnd deep l at ≡ 0 → ⊥) ↔ LongEnough l at
+  long-judged = (long-of-shaped, shaped-of-long)
+
+-- in a DACL allow and deny entries and their callback kin, in a SACL audit entries
 pub long-enough : (l : List ℕ) (at : ℕ) → named (byteAt l at) ≡ true → (entryEnd true l at ≡ 0 → ⊥) ↔ LongEnough l at
-long-enough l at n = (long-of-shaped l at n, shaped-of-long l at n)
+long-enough l at n = long-judged true l at (judges-deep (byteAt l at) ∙ n)
+
+pub audit-enough : (l : List ℕ) (at : ℕ) → audits (byteAt l at) ≡ true → (entryEnd false l at ≡ 0 → ⊥) ↔ LongEnough l at
+audit-enough l at n = long-judged false l at (judges-shallow (byteAt l at) ∙ n)
 
 -- the next entry begins where the size says
 pub ace-next : (l : List ℕ) (at : ℕ) → (aceAt l at .next ≡ 0 → ⊥) → aceAt l at .next ≡ at + u16At l (at + 2)

@@ -44,6 +44,14 @@ callback t = eqb t 9 || eqb t 10
 unfoldable pub named : ℕ → Bool
 named t = ltb t 2 || callback t
 
+-- "audit entries (type 2, ..)" (request 105) hold a u32 mask and one SID too
+unfoldable pub audits : ℕ → Bool
+audits t = eqb t 2
+
+-- which types are judged by request 101's rule: in a DACL (deep) allow and deny entries with their callback kin, in a SACL audit entries
+unfoldable pub judges : Bool → ℕ → Bool
+judges deep t = cond deep (named t) (audits t)
+
 -- "Accept a size of 8 plus the SID's length or more" (request 101): the SID ends inside its own entry. In an allow or deny entry the bytes
 -- from there to the entry's end are spare: nothing reads them (Spare.antt). In a callback entry they are its condition
 abbrev pub fitting : ℕ → ℕ → Bool
@@ -53,9 +61,10 @@ fitting sid-end entry-end = leb sid-end entry-end
 unfoldable pub holds : List ℕ → ℕ → ℕ → Bool
 holds l at e = let k = sidEnd l (at + 8) in cond (eqb k 0) false (fitting k e)
 
--- "This last rule is of shape, and applies in DACLs; in SACLs only headers and sizes are read": deep is true in a DACL
+-- "This last rule is of shape, and applies in DACLs; in SACLs only headers and sizes are read", and "Audit entries get 101's shape rule"
+-- (request 105): deep is true in a DACL
 unfoldable pub entryEnd : Bool → List ℕ → ℕ → ℕ
-entryEnd deep l at = let e = headEnd l at in cond (deep && named (byteAt l at)) (cond (holds l at e) e 0) e
+entryEnd deep l at = let e = headEnd l at in cond (judges deep (byteAt l at)) (cond (holds l at e) e 0) e
 
 -- "Broken expressions give 6 or 9, other tokens 8 or 10": what the entry from a place to its end holds. A type other than 0, 1, 9 and 10 is
 -- foreign; in a DACL a condition is judged, whomever the entry names and whatever its flags

@@ -5,7 +5,7 @@ ghost use mathlib.Core.Bool.{_||_};
 ghost use Prim.Native.Nat.{_≤_, _<_};
 ghost use lib.ListN.{length};
 ghost use lib.Dec.{eqb};
-ghost use Rattle.lists.specs.Acl.{aclEnd, headEnd, callback, named, holds, entryEnd};
+ghost use Rattle.lists.specs.Acl.{aclEnd, headEnd, callback, named, judges, holds, entryEnd};
 ghost use Rattle.lists.specs.Acl.{contentOf, scanOf, noAce, aceAt};
 ghost use Rattle.lists.specs.Simple.{fitsAs, simple};
 use conditions::Scan;
@@ -126,8 +126,19 @@ fn is_named(kind: u8) -> bool
     is_callback(kind)
 }
 
-// The place after the entry at `at`, or 0. That it holds a mask and one SID is judged where `deep`.
-fn entry_end(l: &[u8], at: usize, deep: bool) -> usize
+// Whether that an entry of a type holds a mask and one SID is judged: in a DACL, where `deep`, of
+// all types that hold them, in a SACL of type 2.
+fn is_judged(kind: u8, deep: bool) -> bool
+    ensures { λ r. ⌜ r ≡ judges deep kind ⌝ }
+{
+    if deep {
+        return is_named(kind);
+    }
+    kind == 2
+}
+
+// The place after the entry at `at`, or 0; `deep` in a DACL.
+pub fn entry_end(l: &[u8], at: usize, deep: bool) -> usize
     ensures { λ r. ⌜ r ≡ entryEnd deep (now (l .entry)) at ⌝ }
     ensures { λ r. ⌜ r ≤ length (now (l .entry)) ⌝ }
 {
@@ -135,10 +146,7 @@ fn entry_end(l: &[u8], at: usize, deep: bool) -> usize
     if e == 0 {
         return 0;
     }
-    if !deep {
-        return e;
-    }
-    if !is_named(l[at]) {
+    if !is_judged(l[at], deep) {
         return e;
     }
     if holds(l, at, e) {

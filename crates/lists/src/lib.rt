@@ -7,6 +7,7 @@ pub use acl::Ace;
 pub use acl::Rights;
 pub use acl::ace_at;
 pub use acl::acl_end;
+pub use acl::entry_end;
 pub use acl::is_callback;
 pub use acl::scan_entries;
 pub use by_length::ace_by_length;

@@ -31,7 +31,7 @@ module _ (ms ns : List Member) (same : Alike ms ns) where
   unfolding hitsOf
   hits-alike owner self = rw (stands-alike true owner, stands-alike false owner, stands-alike true self, stands-alike false self)
 
-  matches-alike : (allow : Bool) (h : Hits) (w : List ℕ) → matches allow ms h w ≡ matches allow ns h w
+  pub matches-alike : (allow : Bool) (h : Hits) (w : List ℕ) → matches allow ms h w ≡ matches allow ns h w
   unfolding matches
   matches-alike allow h w = rw (same allow w)
 

@@ -16,6 +16,7 @@ pub use evaluation::listed;
 pub use evaluation::normal;
 pub use matching::Hit;
 pub use matching::Hits;
+pub use matching::matches;
 pub use stand::hits;
 pub use walk::Walked;
 pub use walk::pass;

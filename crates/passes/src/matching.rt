@@ -1,7 +1,7 @@
 // Which identities match: those whom the tables of chains show, and the two virtual ones.
 ghost use mathlib.Core.Path.{_≡_};
 ghost use Rattle.passes.specs.Chains.{shown};
-ghost use Rattle.passes.specs.Matching.{among, side};
+ghost use Rattle.passes.specs.Matching.{among, side, matches};
 ghost use Rattle.passes.specs.OneWalk.{virtualMatches};
 use crate::key::last;
 use crate::search::head;
@@ -77,4 +77,23 @@ pub(crate) fn virtual_matches(w: &[u8], hits: Hits, allow: bool) -> bool
     }
     let me = hits.me;
     facing(me, allow)
+}
+
+// Whether a SID matches, for allow or for deny: a virtual one by the hits, any other by the tables.
+pub fn matches(
+    listing: &[u8],
+    heads: &[u16; 512],
+    seats: &[u64],
+    hits: Hits,
+    w: &[u8],
+    allow: bool,
+) -> bool
+    ensures { λ r. ⌜ r ≡ matches allow
+        (shown (now (heads .entry)) (now (seats .entry)) (now (listing .entry))) hits
+        (now (w .entry)) ⌝ }
+{
+    if sids::is_virtual(w) {
+        return virtual_matches(w, hits, allow);
+    }
+    among(listing, heads, seats, w, allow)
 }

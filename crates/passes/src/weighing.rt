@@ -11,8 +11,7 @@ ghost use Rattle.conditions.specs.Membership.{sidsOf, meets, reply, toldOf, out
 ghost use Rattle.passes.specs.Chains.{shown};
 ghost use Rattle.passes.specs.Matching.{matches};
 use crate::matching::Hits;
-use crate::matching::among;
-use crate::matching::virtual_matches;
+use crate::matching::matches;
 use conditions::Outcome;
 use conditions::Stack;
 use conditions::Step;
@@ -20,18 +19,6 @@ use conditions::ended;
 use conditions::literal_end;
 use conditions::step;
 use conditions::zeros;
-
-// Whether a SID is a member: it matches for allow.
-fn is_member(listing: &[u8], heads: &[u16; 512], seats: &[u64], hits: Hits, w: &[u8]) -> bool
-    ensures { λ r. ⌜ r ≡ matches true
-        (shown (now (heads .entry)) (now (seats .entry)) (now (listing .entry))) hits
-        (now (w .entry)) ⌝ }
-{
-    if sids::is_virtual(w) {
-        return virtual_matches(w, hits, true);
-    }
-    among(listing, heads, seats, w, true)
-}
 
 // Whether every SID of a list is a member, or some SID is.
 fn meets(
@@ -53,7 +40,7 @@ fn meets(
             return every;
         }
         let from = at + 5;
-        if is_member(listing, heads, seats, hits, &c[from..e]) {
+        if matches(listing, heads, seats, hits, &c[from..e], true) {
             if !every {
                 return true;
             }

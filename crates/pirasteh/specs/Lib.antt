@@ -2,3 +2,5 @@
 pub mod Told
 -- the answer and its masks, for those who ask why
 pub mod Explained
+-- the answer and its trail
+pub mod Followed

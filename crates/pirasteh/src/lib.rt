@@ -5,9 +5,11 @@ ghost use mathlib.Core.Bool.{cond};
 ghost use lib.ListN.{length};
 ghost use Rattle.records.specs.Converters.{asListing, asRecord, fitted};
 ghost use Rattle.access.specs.Status.{checked};
-ghost use Rattle.access.specs.QuestionFile.{fileAnswer, fileDesires};
+ghost use Rattle.access.specs.QuestionFile.{fileAnswer, fileDesires, fileReport};
+ghost use Rattle.access.specs.Reported.{reportOf, inBuffer};
 ghost use Rattle.pirasteh.specs.Told.{Told, Handed};
 ghost use Rattle.pirasteh.specs.Explained.{ifAnswered, Shown, Explained};
+ghost use Rattle.pirasteh.specs.Followed.{Followed};
 use access::Answer;
 use lists::Rights;
 
@@ -153,6 +155,58 @@ pub extern "C" fn pirasteh_why_question(
     *kind = if_answered(a.status, d.kind);
     *asked = if_answered(a.status, masks::asked(d.kind, d.mask).0);
     show(a, normal, confined, ruled);
+    tell(a, granted, allowed, staged)
+}
+
+// The answer to a question, in the same way as `pirasteh_check`, and its trail: 11 where `trail` is
+// too short for that. In `written` how many bytes; `trail` is unchanged past them, and on refusal.
+#[no_mangle]
+pub extern "C" fn pirasteh_trail(
+    kind: u32,
+    mask: u32,
+    token: &[u8],
+    me: &[u8],
+    descriptor: &[u8],
+    policy: &[u8],
+    trail: &mut [u8],
+    written: &mut usize,
+    granted: &mut u32,
+    allowed: &mut u32,
+    staged: &mut u32,
+) -> u32
+    ensures { λ r. ⌜ Followed (inBuffer (length (now (trail .entry))) (reportOf (record {
+      kind = kind;
+      mask = mask;
+      token = now (token .entry);
+      self = now (me .entry);
+      descriptor = now (descriptor .entry);
+      policy = now (policy .entry);
+    }))) (now (trail .entry)) (now (trail .exit)) (now (written .exit)) r
+        (now (granted .exit)) (now (allowed .exit)) (now (staged .exit)) ⌝ }
+{
+    let t = access::trail(kind, Rights(mask), token, me, descriptor, policy, trail);
+    let a = t.answer;
+    *written = t.length;
+    tell(a, granted, allowed, staged)
+}
+
+// The answer to a question file and its trail, in the same way.
+#[no_mangle]
+pub extern "C" fn pirasteh_trail_question(
+    file: &[u8],
+    trail: &mut [u8],
+    written: &mut usize,
+    granted: &mut u32,
+    allowed: &mut u32,
+    staged: &mut u32,
+) -> u32
+    ensures { λ r. ⌜ Followed (inBuffer (length (now (trail .entry)))
+        (fileReport (now (file .entry)))) (now (trail .entry)) (now (trail .exit))
+        (now (written .exit)) r (now (granted .exit)) (now (allowed .exit)) (now (staged .exit)) ⌝ }
+{
+    let t = access::trail_question(file, trail);
+    let a = t.answer;
+    *written = t.length;
     tell(a, granted, allowed, staged)
 }
 

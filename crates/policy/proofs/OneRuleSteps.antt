@@ -9,7 +9,8 @@ use lib.Dec.{eqb}
 use Rattle.conditions.specs.Scanning.{isBroken, isForeign}
 use Rattle.conditions.specs.declared.scan.Scan.{Scan}
 use Rattle.conditions.specs.declared.scan.Scan.the-variants.{Broken}
-use Rattle.policy.specs.Policy.{sectionAt, bytesOf, aclSection, maybeAcl, appliesSection, noRule, Placed, ruleOf, ruleAt}
+use Rattle.policy.specs.Policy.{section, sectionAt, bytesOf, Lies, aclSection, maybeAcl, appliesSection}
+use Rattle.policy.specs.Policy.{noRule, Placed, ruleOf, ruleAt}
 use Rattle.policy.specs.declared.sections.Section.{Section}
 use Rattle.policy.specs.declared.one_rule.Rule.{Rule}
 
@@ -27,6 +28,13 @@ maybeIn deep s x = cond (eqb (x .to) 0) Broken (maybeAcl deep (bytesOf s x))
 pub told : (x y : Scan) (b t : Bool) → b ≡ isBroken x → x ≡ y → b ≡ t → isBroken y ≡ t
 told x y b t e f g = ap isBroken (sym f) ∙ sym e ∙ g
 
+-- a section that does not fit lies within any bytes
+empty-lies : (s : List ℕ) (x : Section) → x ≡ section 0 0 → Lies s x
+empty-lies s x e =
+    let a : x .from ≡ 0 = ap (λ (y : Section). y .from) e in
+    let b : x .to ≡ 0 = ap (λ (y : Section). y .to) e in
+    (omega arith, omega arith)
+
 -- a section that does not fit and a broken list are refused alike
 fused : (b : Bool) (e : Scan) (f : Scan → Rule) →
     cond b noRule (cond (isBroken e) noRule (f e)) ≡ cond (isBroken (cond b Broken e)) noRule (f (cond b Broken e))
@@ -42,7 +50,9 @@ module _ (s : List ℕ) (applies dacl sacl staged last : Section) where
         unread = isForeign a || isForeign e || isForeign t;
         applies = applies;
         effective = dacl;
+        sacl = sacl;
         staged = staged;
+        «staged_sacl» = last;
       }
 
   -- applies_to and the four lists, in their order
@@ -112,7 +122,16 @@ module _ (s : List ℕ) (applies dacl sacl staged last : Section) where
     pub rule-found : isBroken (listIn s dacl) ≡ false → isBroken (maybeIn false s sacl) ≡ false → isBroken (maybeIn true s staged) ≡ false →
         isBroken (maybeIn false s last) ≡ false → (u : Bool) (a e t : Scan) → a ≡ appliesIn s applies → e ≡ listIn s dacl →
         t ≡ maybeIn true s staged → u ≡ (isForeign a || isForeign e || isForeign t) →
-        _≡_ {A = Rule} (record { next = last .to; unread = u; applies = applies; effective = dacl; staged = staged })
+        _≡_ {A = Rule}
+        (record {
+          next = last .to;
+          unread = u;
+          applies = applies;
+          effective = dacl;
+          sacl = sacl;
+          staged = staged;
+          «staged_sacl» = last;
+        })
         (ruleOf s applies dacl sacl staged last)
     rule-found de dx dt dy u a e t o p q r = rw (r, o, p, q) (sym (rule-whole de dx dt dy))
 
@@ -120,14 +139,25 @@ module _ (s : List ℕ) (applies dacl sacl staged last : Section) where
   pub rule-none : (r : Rule) → r ≡ noRule → ruleOf s applies dacl sacl staged last ≡ noRule →
       (r ≡ ruleOf s applies dacl sacl staged last) × Placed s r
   rule-none r e h =
-      let n : r .next ≡ 0 = ap (λ (x : Rule). x .next) e in
-      let c : r .applies .from ≡ 0 = ap (λ (x : Rule). x .applies .from) e in
-      let d : r .applies .to ≡ 0 = ap (λ (x : Rule). x .applies .to) e in
-      let a : r .effective .from ≡ 0 = ap (λ (x : Rule). x .effective .from) e in
-      let b : r .effective .to ≡ 0 = ap (λ (x : Rule). x .effective .to) e in
-      let f : r .staged .from ≡ 0 = ap (λ (x : Rule). x .staged .from) e in
-      let g : r .staged .to ≡ 0 = ap (λ (x : Rule). x .staged .to) e in
-      (e ∙ sym h, (omega arith, ((omega arith, omega arith), ((omega arith, omega arith), (omega arith, omega arith)))))
+      let n : r .next ≡ 0 = ap (λ (x : Rule). x .next) e in (
+        e ∙ sym h,
+        (
+          omega arith,
+          (
+            empty-lies s (r .applies) (ap (λ (x : Rule). x .applies) e),
+            (
+              empty-lies s (r .effective) (ap (λ (x : Rule). x .effective) e),
+              (
+                empty-lies s (r .sacl) (ap (λ (x : Rule). x .sacl) e),
+                (
+                  empty-lies s (r .staged) (ap (λ (x : Rule). x .staged) e),
+                  empty-lies s (r .«staged_sacl») (ap (λ (x : Rule). x .«staged_sacl») e),
+                ),
+              ),
+            ),
+          ),
+        ),
+      )
 
 -- a rule, from the five sections as the code reads them
 pub rule-read : (s : List ℕ) (at : ℕ) (applies dacl sacl staged last : Section) (r : Rule) → applies ≡ sectionAt s at →

@@ -1,6 +1,7 @@
 -- What the rules of a policy come to. In order: rules after rules (ruled-append); bit by bit, what is left (left-bit, left-bit-all) and
--- where staging differs (differ-bit); one rule more never adds a bit (ruled-within); masks of 32 bits (ruled-left-lt, result-lt,
--- ruled-differ-lt); crowds among whom the same SIDs match are left the same (ruled-alike). Assumes nothing.
+-- where staging differs (differ-bit); whether a rule that applies has a SACL (audits-some, staged-audits-some); one rule more never adds a
+-- bit (ruled-within); masks of 32 bits (ruled-left-lt, result-lt, ruled-differ-lt); crowds among whom the same SIDs match are left the same
+-- (ruled-alike). Assumes nothing.
 use Prim.Native.Nat.{ℕ, _^_, _<_, _≤_}
 use mathlib.Core.Path.{_≡_, refl, sym, ap, _∙_}
 use mathlib.Core.List.{List, [], _∷_, _++_}
@@ -11,14 +12,14 @@ use Rattle.base.specs.Bits.{and, or, differ, has, bit, Within}
 use Rattle.base.proofs.BitLaws as base
 use Rattle.lists.specs.Acl.{Entry}
 use Rattle.records.specs.Crowd.{Member}
-use Rattle.passes.specs.Confinement.{everything}
 use Rattle.masks.specs.KindsAndMasks.{systemSecurity}
 use Rattle.passes.specs.OnePass.{passed}
 use Rattle.passes.specs.NormalEvaluation.{listed, namesOwner, privilegesGive, normalOf}
 use Rattle.passes.proofs.OnePassLaws.{passed-lt}
 use Rattle.passes.proofs.CrowdsLaws.{Alike, admits-alike, normal-alike}
 use Rattle.passes.specs.declared.matching.Hits.{Hits}
-use Rattle.policy.specs.Rules.{Lists, resultOf, ruled, appliesTo, narrowedBy, judgedBy, ruledFrom, ruledBy, everyRule, someStage}
+use Rattle.policy.specs.Rules.{Lists, resultOf, ruled, unruled, there, appliesTo, narrowedBy, judgedBy, ruledFrom, ruledBy}
+use Rattle.policy.specs.Rules.{everyRule, someStage, someAudit, someStagedAudit}
 use Rattle.policy.specs.declared.rules.Ruled.{Ruled}
 
 -- ---- tests
@@ -70,7 +71,7 @@ module _ (kind : ℕ) (ms : List Member) (h : Hits) (p : ℕ) where
 
   pub left-bit-all : (rs : List Lists) (i : ℕ) → i < 32 → bit (ruledBy kind ms h p rs .left .0) i ≡ everyRule kind ms h p rs i
   left-bit-all rs i l =
-      left-bit (ruled everything 0) rs i
+      left-bit unruled rs i
       ∙ ap (λ (b : Bool). b && everyRule kind ms h p rs i) (base.flip-bit 0 i (omega arith) l ∙ ap not (base.zero-bit i))
 
   differ-step : (st : Ruled) (r : Lists) (i : ℕ) (q : Bool) →
@@ -87,8 +88,13 @@ module _ (kind : ℕ) (ms : List Member) (h : Hits) (p : ℕ) where
       t : ℕ
       t = resultOf kind ms h p (r .staged)
 
+      narrowed : Bool → Ruled
+      narrowed b =
+          ruled (and (st .left .0) e) (cond b (or (st .differ .0) (differ e t)) (st .differ .0)) (st .«has_sacl» || there (r .sacl))
+          (st .«has_staged_sacl» || there (r .stagedSacl))
+
       go : (a b : Bool) →
-          (bit (cond a (ruled (and (st .left .0) e) (cond b (or (st .differ .0) (differ e t)) (st .differ .0))) st .differ .0) i || q)
+          (bit (cond a (narrowed b) st .differ .0) i || q)
           ≡ (bit (st .differ .0) i || cond (a && b) (xor (bit e i) (bit t i) || q) q)
       go true true =
           ap
@@ -103,6 +109,34 @@ module _ (kind : ℕ) (ms : List Member) (h : Hits) (p : ℕ) where
   unfolding ruledFrom someStage
   differ-bit st [] i = sym (or-false (bit (st .differ .0) i))
   differ-bit st (r ∷ rs) i = differ-bit (judgedBy kind ms h p st r) rs i ∙ differ-step st r i (someStage kind ms h p rs i)
+
+  -- ---- SACLs of rules that apply
+
+  pub audits-some : (st : Ruled) (rs : List Lists) → ruledFrom kind ms h p st rs .«has_sacl» ≡ (st .«has_sacl» || someAudit ms h rs)
+  unfolding ruledFrom judgedBy narrowedBy someAudit
+  audits-some st [] = sym (or-false (st .«has_sacl»))
+  audits-some st (r ∷ rs) = audits-some (judgedBy kind ms h p st r) rs ∙ go (appliesTo ms h r)
+    where
+      q : Bool
+      q = someAudit ms h rs
+
+      go : (b : Bool) → (cond b (narrowedBy kind ms h p st r) st .«has_sacl» || q) ≡ (st .«has_sacl» || cond b (there (r .sacl) || q) q)
+      go true = or-assoc (st .«has_sacl») (there (r .sacl)) q
+      go false = refl
+
+  pub staged-audits-some : (st : Ruled) (rs : List Lists) →
+      ruledFrom kind ms h p st rs .«has_staged_sacl» ≡ (st .«has_staged_sacl» || someStagedAudit ms h rs)
+  unfolding ruledFrom judgedBy narrowedBy someStagedAudit
+  staged-audits-some st [] = sym (or-false (st .«has_staged_sacl»))
+  staged-audits-some st (r ∷ rs) = staged-audits-some (judgedBy kind ms h p st r) rs ∙ go (appliesTo ms h r)
+    where
+      q : Bool
+      q = someStagedAudit ms h rs
+
+      go : (b : Bool) → (cond b (narrowedBy kind ms h p st r) st .«has_staged_sacl» || q)
+          ≡ (st .«has_staged_sacl» || cond b (there (r .stagedSacl) || q) q)
+      go true = or-assoc (st .«has_staged_sacl») (there (r .stagedSacl)) q
+      go false = refl
 
   -- ---- one rule more never adds a bit
 
@@ -132,7 +166,7 @@ module _ (kind : ℕ) (ms : List Member) (h : Hits) (p : ℕ) where
       go false = omega arith
 
   pub ruled-left-lt : (rs : List Lists) → ruledBy kind ms h p rs .left .0 < 2 ^ 32
-  ruled-left-lt rs = omega (arith, left-le (ruled everything 0) rs)
+  ruled-left-lt rs = omega (arith, left-le unruled rs)
 
   -- one result is a mask
   pub result-lt : (es : List Entry) → resultOf kind ms h p es < 2 ^ 32
@@ -154,8 +188,12 @@ module _ (kind : ℕ) (ms : List Member) (h : Hits) (p : ℕ) where
       t : ℕ
       t = resultOf kind ms h p (r .staged)
 
-      go : (a b : Bool) →
-          cond a (ruled (and (st .left .0) e) (cond b (or (st .differ .0) (differ e t)) (st .differ .0))) st .differ .0 < 2 ^ 32
+      narrowed : Bool → Ruled
+      narrowed b =
+          ruled (and (st .left .0) e) (cond b (or (st .differ .0) (differ e t)) (st .differ .0)) (st .«has_sacl» || there (r .sacl))
+          (st .«has_staged_sacl» || there (r .stagedSacl))
+
+      go : (a b : Bool) → cond a (narrowed b) st .differ .0 < 2 ^ 32
       go true true = B.or-lt 32 (st .differ .0) (differ e t) l (B.xor-lt 32 e t (f (r .effective)) (f (r .staged)))
       go true false = l
       go false b = l

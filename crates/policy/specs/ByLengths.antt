@@ -17,7 +17,16 @@ ruleByLengths s at =
     let dacl = sectionAt s (applies .to) in
     let sacl = sectionAt s (dacl .to) in
     let staged = sectionAt s (sacl .to) in
-    record { next = sectionAt s (staged .to) .to; unread = false; applies = applies; effective = dacl; staged = staged }
+    let stagedSacl = sectionAt s (staged .to) in
+    record {
+      next = stagedSacl .to;
+      unread = false;
+      applies = applies;
+      effective = dacl;
+      sacl = sacl;
+      staged = staged;
+      «staged_sacl» = stagedSacl;
+    }
 
 -- what a rule says, its entries found by their lengths
 abbrev pub listsByLengths : List ℕ → Rule → Lists
@@ -27,6 +36,8 @@ listsByLengths s r =
       effective = entriesByLength (bytesOf s (r .effective));
       stages = ltb (r .staged .from) (r .staged .to);
       staged = entriesByLength (bytesOf s (r .staged));
+      sacl = bytesOf s (r .sacl);
+      stagedSacl = bytesOf s (r .«staged_sacl»);
     }
 
 -- the n rules from a place; they stop where a section does not fit

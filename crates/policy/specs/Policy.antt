@@ -58,11 +58,22 @@ appliesSection l = cond (eqb (length l) 0) Plain (cond (ltb 65536 (length l)) Br
 
 -- misshapen: the place after it is 0
 abbrev pub noRule : Rule
-noRule = record { next = 0; unread = false; applies = section 0 0; effective = section 0 0; staged = section 0 0 }
+noRule =
+    record {
+      next = 0;
+      unread = false;
+      applies = section 0 0;
+      effective = section 0 0;
+      sacl = section 0 0;
+      staged = section 0 0;
+      «staged_sacl» = section 0 0;
+    }
 
 -- a rule lies within the bytes, misshapen or not
 abbrev pub Placed : List ℕ → Rule → Type 0
-Placed s r = (r .next ≤ length s) × (Lies s (r .applies) × (Lies s (r .effective) × Lies s (r .staged)))
+Placed s r =
+    (r .next ≤ length s)
+    × (Lies s (r .applies) × (Lies s (r .effective) × (Lies s (r .sacl) × (Lies s (r .staged) × Lies s (r .«staged_sacl»)))))
 
 -- five sections; "Broken expressions give 6 or 9, other tokens 8 or 10" (request 103), in applies_to as in the lists
 unfoldable pub ruleOf : List ℕ → Section → Section → Section → Section → Section → Rule
@@ -85,7 +96,9 @@ ruleOf s applies dacl sacl staged stagedSacl =
       unread = isForeign appliesScan || isForeign effectiveScan || isForeign stagedScan;
       applies = applies;
       effective = dacl;
+      sacl = sacl;
       staged = staged;
+      «staged_sacl» = stagedSacl;
     }))))))))))
 
 unfoldable pub ruleAt : List ℕ → ℕ → Rule

@@ -1,5 +1,6 @@
--- "A rule's result is normal evaluation with its DACL for the descriptor's, same owner, without confinement. The SACL sections are checked
--- for shape and otherwise unused." "Staging flag: some rule with a staged DACL whose effective and staged results differ on asked bits."
+-- "A rule's result is normal evaluation with its DACL for the descriptor's, same owner, without confinement." "Staging flag: some rule with
+-- a staged DACL whose effective and staged results differ on asked bits." "The SACL sections are checked for shape and otherwise unused" is
+-- no longer so since request 105: they are read by crate audit, and here it is told whether a rule that applies has one.
 use Prim.Native.Nat.{ℕ, zero, suc}
 use mathlib.Core.List.{List, [], _∷_}
 use mathlib.Core.Bool.{Bool, true, false, cond, xor, _&&_, _||_}
@@ -18,12 +19,15 @@ use Rattle.policy.specs.Policy.{bytesOf, ruleAt}
 use Rattle.policy.specs.declared.one_rule.Rule.{Rule}
 use Rattle.policy.specs.declared.rules.Ruled.{Ruled}
 
--- what a rule says: to whom it applies, its effective list, whether it has a staged one, and that
+-- what a rule says: to whom it applies, its effective list, whether it has a staged one, and that; and the bytes of its effective and of
+-- its staged SACL, none where the section is empty
 pub record Lists : Type 0 where
   pub applies : List ℕ
   pub effective : List Entry
   pub stages : Bool
   pub staged : List Entry
+  pub sacl : List ℕ
+  pub stagedSacl : List ℕ
 
 abbrev pub listsOf : List ℕ → Rule → Lists
 listsOf s r =
@@ -32,6 +36,8 @@ listsOf s r =
       effective = entriesOf (bytesOf s (r .effective));
       stages = ltb (r .staged .from) (r .staged .to);
       staged = entriesOf (bytesOf s (r .staged));
+      sacl = bytesOf s (r .sacl);
+      stagedSacl = bytesOf s (r .«staged_sacl»);
     }
 
 -- the n rules from a place; they stop at a misshapen one
@@ -47,9 +53,18 @@ rulesOf s = cond (eqb (length s) 0) [] (rulesAt s (u32At s 1) 5)
 abbrev pub resultOf : ℕ → List Member → Hits → ℕ → List Entry → ℕ
 resultOf kind ms h p es = normalOf kind ms h p (listed es)
 
--- the bits left by the rules so far, and those on which effective and staged results differ so far
-abbrev pub ruled : ℕ → ℕ → Ruled
-ruled l d = record { left = record { 0 = l }; differ = record { 0 = d } }
+-- the bits left by the rules so far, those on which effective and staged results differ so far, and whether an effective and a staged SACL
+-- was met so far
+abbrev pub ruled : ℕ → ℕ → Bool → Bool → Ruled
+ruled l d a s = record { left = record { 0 = l }; differ = record { 0 = d }; «has_sacl» = a; «has_staged_sacl» = s }
+
+-- before the first rule every bit is left
+abbrev pub unruled : Ruled
+unruled = ruled everything 0 false false
+
+-- whether a SACL section has a list
+abbrev pub there : List ℕ → Bool
+there l = ltb 0 (length l)
 
 -- "applies_to uses the normal identities" (request 103): a rule applies if it has no condition, or a true one
 abbrev pub appliesTo : List Member → Hits → Lists → Bool
@@ -61,6 +76,7 @@ narrowedBy kind ms h p st r =
     let e = resultOf kind ms h p (r .effective) in
     let q = resultOf kind ms h p (r .staged) in
     ruled (and (st .left .0) e) (cond (r .stages) (or (st .differ .0) (differ e q)) (st .differ .0))
+    (st .«has_sacl» || there (r .sacl)) (st .«has_staged_sacl» || there (r .stagedSacl))
 
 -- one rule more. "A rule that does not apply neither narrows nor flags."
 unfoldable pub judgedBy : ℕ → List Member → Hits → ℕ → Ruled → Lists → Ruled
@@ -70,9 +86,9 @@ unfoldable pub ruledFrom : ℕ → List Member → Hits → ℕ → Ruled → Li
 ruledFrom kind ms h p st [] = st
 ruledFrom kind ms h p st (r ∷ rs) = ruledFrom kind ms h p (judgedBy kind ms h p st r) rs
 
--- what all rules leave, and where staging differs
+-- what all rules leave, where staging differs, and which SACLs there are
 abbrev pub ruledBy : ℕ → List Member → Hits → ℕ → List Lists → Ruled
-ruledBy kind ms h p rs = ruledFrom kind ms h p (ruled everything 0) rs
+ruledBy kind ms h p rs = ruledFrom kind ms h p unruled rs
 
 -- the same, bit by bit, without a state: a bit is left if the effective result of every rule that applies has it
 unfoldable pub everyRule : ℕ → List Member → Hits → ℕ → List Lists → ℕ → Bool
@@ -88,3 +104,12 @@ someStage kind ms h p (r ∷ rs) i =
     let q = someStage kind ms h p rs i in
     let d = xor (bit (resultOf kind ms h p (r .effective)) i) (bit (resultOf kind ms h p (r .staged)) i) in
     cond (appliesTo ms h r && r .stages) (d || q) q
+
+-- some rule that applies has an effective SACL, and a staged one
+unfoldable pub someAudit : List Member → Hits → List Lists → Bool
+someAudit ms h [] = false
+someAudit ms h (r ∷ rs) = let q = someAudit ms h rs in cond (appliesTo ms h r) (there (r .sacl) || q) q
+
+unfoldable pub someStagedAudit : List Member → Hits → List Lists → Bool
+someStagedAudit ms h [] = false
+someStagedAudit ms h (r ∷ rs) = let q = someStagedAudit ms h rs in cond (appliesTo ms h r) (there (r .stagedSacl) || q) q

@@ -7,6 +7,7 @@ mod shape;
 
 pub use one_rule::Rule;
 pub use rules::Ruled;
+pub use rules::rule_by_lengths;
 pub use rules::ruled_by;
 pub use sections::Section;
 pub use shape::Standing;

@@ -13,13 +13,15 @@ use conditions::is_broken;
 use conditions::is_foreign;
 
 // A rule: the place after it (0: misshapen), whether it holds what is not read in this edition, and
-// where its applies_to and its two access lists stand.
+// where its five sections stand.
 pub struct Rule {
     pub next: usize,
     pub unread: bool,
     pub applies: Section,
     pub effective: Section,
+    pub sacl: Section,
     pub staged: Section,
+    pub staged_sacl: Section,
 }
 
 // Whether a rule holds what is not read in this edition: a foreign token or a foreign entry.
@@ -44,7 +46,9 @@ fn no_rule() -> Rule
         unread: false,
         applies: Section { from: 0, to: 0 },
         effective: Section { from: 0, to: 0 },
+        sacl: Section { from: 0, to: 0 },
         staged: Section { from: 0, to: 0 },
+        staged_sacl: Section { from: 0, to: 0 },
     }
 }
 
@@ -89,7 +93,9 @@ fn rule_of(
         unread: is_unread(applies_scan, effective_scan, staged_scan),
         applies,
         effective: dacl,
+        sacl,
         staged,
+        staged_sacl: last,
     }
 }
 

@@ -12,14 +12,17 @@ use lists::Rights;
 use masks::Tally;
 use passes::Hits;
 
-// The bits left, and those on which effective and staged results differ.
+// The bits left, those on which effective and staged results differ, and whether a rule that
+// applies has an effective SACL, and a staged one.
 pub struct Ruled {
     pub left: Rights,
     pub differ: Rights,
+    pub has_sacl: bool,
+    pub has_staged_sacl: bool,
 }
 
 // The rule at a place, by the lengths of its sections alone: its lists are not scanned.
-fn rule_by_lengths(s: &[u8], at: usize) -> Rule
+pub fn rule_by_lengths(s: &[u8], at: usize) -> Rule
     ensures { λ r. ⌜ r ≡ ruleByLengths (now (s .entry)) at ⌝ }
     ensures { λ r. ⌜ Placed (now (s .entry)) r ⌝ }
 {
@@ -33,7 +36,9 @@ fn rule_by_lengths(s: &[u8], at: usize) -> Rule
         unread: false,
         applies,
         effective,
+        sacl,
         staged,
+        staged_sacl: last,
     }
 }
 
@@ -78,6 +83,11 @@ fn narrowed(
 {
     let left = before.left;
     let differ = before.differ;
+    let has_sacl = base::either(before.has_sacl, r.sacl.from < r.sacl.to);
+    let has_staged_sacl = base::either(
+        before.has_staged_sacl,
+        r.staged_sacl.from < r.staged_sacl.to,
+    );
     let from = r.effective.from;
     let to = r.effective.to;
     let e = result(&s[from..to], kind, listing, heads, seats, hits, privileges);
@@ -96,11 +106,15 @@ fn narrowed(
         return Ruled {
             left: Rights(left.0 & e.0),
             differ: Rights(differ.0 | (e.0 ^ q.0)),
+            has_sacl,
+            has_staged_sacl,
         };
     }
     Ruled {
         left: Rights(left.0 & e.0),
         differ,
+        has_sacl,
+        has_staged_sacl,
     }
 }
 
@@ -153,6 +167,8 @@ pub fn ruled_by(
     let mut so_far = Ruled {
         left: Tally::EVERYTHING,
         differ: Tally::NONE,
+        has_sacl: false,
+        has_staged_sacl: false,
     };
     let mut place: usize = 5;
     let mut k: u32 = 0;

@@ -13,14 +13,19 @@
 -- `applies` (demands/specs/SomeCallers.antt); `known`, `struck`, `SameButOneRule` (demands/specs/Strangers.antt); `asked`, the bits that a mask
 -- asks for (masks/specs/KindsAndMasks.antt); `bit`, the bit of a mask at a place (base/specs/Bits.antt); `Narrowing`, `FirstTwoStill`,
 -- `TakenOnce` (demands/specs/FourMasks.antt); `confines`, whether confinement applies to a token of these flags
--- (passes/specs/Confinement.antt); `tokenIn`, the token of a question (demands/specs/Accepted.antt); `rulesOf`, the rules of a policy
--- (policy/specs/Rules.antt). Assumes nothing.
+-- (passes/specs/Confinement.antt); `tokenIn`, the token of a question, `eventsGiven`, its events (demands/specs/Accepted.antt);
+-- `rulesOf`, the rules of a policy (policy/specs/Rules.antt); `byLists`, the answer by the access lists alone, `raisedFor`, whether a
+-- staged SACL raises the flag (access/specs/Status.antt); `reportOf`, an answer and the bytes of its trail, `inBuffer n`, that in a lent
+-- buffer of n bytes, `Lent`, what a call hands out (access/specs/Reported.antt); `trailBytes`, events as bytes (audit/specs/Trail.antt);
+-- `Written`, a buffer with bytes at its front (demands/specs/Conversions.antt). Assumes nothing.
 use Prim.Native.Nat.{ℕ, _+_, _*_, _<_, _≤_}
 use mathlib.Core.Path.{_≡_}
 use mathlib.Core.List.{List, [], _∷_, _++_}
-use mathlib.Core.Bool.{Bool, true, false}
+use mathlib.Core.Bool.{Bool, true, false, _||_}
 use mathlib.Core.Logic.{_↔_}
 use lib.ListN.{length, getD, take}
+use lib.Dec.{T}
+use lib.Pow.{areBytes}
 use Rattle.base.specs.Bits.{and, bit, Within}
 use Rattle.base.specs.Bytes.{byteAt, u16At}
 use Rattle.base.specs.Bytes.Read.{some}
@@ -35,7 +40,7 @@ use Rattle.conditions.specs.Membership.{reply, toldOf, outcome, admits}
 use Rattle.conditions.proofs.ShapeLaws as shapes
 use Rattle.conditions.proofs.MembershipLaws as membership
 use Rattle.conditions.proofs.judge as judge
-use Rattle.lists.specs.Acl.{named, Entry, entryEnd, scanOf, entriesOf}
+use Rattle.lists.specs.Acl.{named, audits, Entry, entryEnd, scanOf, entriesOf}
 use Rattle.lists.specs.Spare.{LongEnough, saidAt, SameButSpare}
 use Rattle.conditions.specs.declared.scan.Scan.the-variants.{Plain}
 use Rattle.lists.specs.ByLength.{entriesByLength}
@@ -61,8 +66,13 @@ use Rattle.masks.specs.declared.tally.Tally.{Tally}
 use Rattle.passes.proofs.ChainedLaws as links
 use Rattle.passes.proofs.admits as admitting
 use Rattle.policy.specs.Rules.{rulesOf}
-use Rattle.access.specs.Status.{Question, checked}
-use Rattle.demands.specs.Accepted.{Accepted, tokenIn}
+use Rattle.audit.specs.Trail.{trailBytes}
+use Rattle.access.specs.Status.{Question, byLists, raisedFor, checked}
+use Rattle.access.specs.Reported.{reportOf, inBuffer, Lent}
+use Rattle.access.specs.declared.answer.Traced.{Traced}
+use Rattle.access.specs.QuestionFile.{fileReport}
+use Rattle.demands.specs.Accepted.{Accepted, tokenIn, eventsGiven}
+use Rattle.demands.specs.Conversions.{Written}
 use Rattle.demands.specs.Strangers.{known, struck, SameButOneRule}
 use Rattle.demands.specs.LongEntries.{ReadTheSame}
 use Rattle.demands.specs.SomeCallers.{applies, Conditioned, conditionedBy}
@@ -73,6 +83,9 @@ use Rattle.demands.proofs.OwnerEntriesLaws as owner-entries
 use Rattle.demands.proofs.OwnersRightsLaws as owners-rights
 use Rattle.demands.proofs.ObjectListsLaws as object-lists
 use Rattle.demands.proofs.SomeCallersLaws as some-callers
+use Rattle.demands.proofs.TrailLaws as trail
+use Rattle.demands.proofs.TrailBoundLaws as bound
+use Rattle.demands.proofs.FileBoundLaws as file-bound
 use Rattle.demands.proofs.FourMasksLaws as four-masks
 
 -- ---- #101 Older lists with long entries. "Accept a size of 8 plus the SID's length or more, still a multiple of 4."
@@ -99,6 +112,10 @@ spare-bytes = alike.spare-unread
 
 pub same-reading : (p q : Question) → Accepted p → Accepted q → ReadTheSame p q → checked p ≡ checked q
 same-reading = long-entries.answer-read
+
+-- and equal trails, since "Audit entries get 101's shape rule" (request 105)
+pub same-report : (p q : Question) → Accepted p → Accepted q → ReadTheSame p q → reportOf p ≡ reportOf q
+same-report = trail.report-read
 
 -- ---- #102 Owner entries meant for children. "Only entries without flag 0x08 count from now on, in the descriptor and in rule lists."
 -- Of those that name S-1-3-4: a list takes the owner's two rights away exactly if it has one without the flag, allow or deny, any mask
@@ -189,6 +206,43 @@ one-byte = steps.number-alone
 -- one-byte number is read
 pub more-bytes : (bits : ℕ) (s : List ℕ) (at v n : ℕ) → 128 ≤ byteAt s at → number bits s at ≡ some v n → (128 ≤ v) × (at + 1 < n)
 more-bytes = longer.longer-found
+
+-- ---- #105 Audit trail and staged audit. "Audit entries get 101's shape rule": in a SACL, of type 2
+pub audit-entry : (l : List ℕ) (at : ℕ) → audits (byteAt l at) ≡ true → (entryEnd false l at ≡ 0 → ⊥) ↔ LongEnough l at
+audit-entry = spare.audit-enough
+
+-- "Write one event per entry .., all in sevens, in stored order, into a lent buffer." The trail of
+-- an accepted question is the bytes of its events; where it fits they stand at the buffer's front, with the rest unchanged
+pub trail-is : (q : Question) → Accepted q → reportOf q .trail ≡ trailBytes (eventsGiven q)
+trail-is = trail.trail-is
+
+pub trail-written : (q : Question) (before after : List ℕ) (t : Traced) → Lent (inBuffer (length before) (reportOf q)) before after t →
+    t .answer .status ≡ 0 → Written (trailBytes (eventsGiven q)) before after (t .length)
+trail-written = trail.trail-written
+
+-- "If the events do not fit: 11, last of all, nothing granted, nothing written": 11 exactly then, and with room enough, an exactly full
+-- buffer included, the whole report. The rest is `bad-report`, `refused-report` and `refused-trail` of Promises.antt
+pub eleven-only : (n : ℕ) (q : Question) → inBuffer n (reportOf q) .answer .status ≡ 11 ↔ (Accepted q × (n < length (reportOf q .trail)))
+eleven-only = trail.eleven-only
+
+pub room-enough : (n : ℕ) (q : Question) → length (reportOf q .trail) ≤ n → inBuffer n (reportOf q) ≡ reportOf q
+room-enough = trail.room-enough
+
+-- how long a trail is at most: 9/16 of descriptor and policy, and so 184,319 bytes, and 36,864 of a question file's
+pub trail-bound : (q : Question) → T (areBytes (q .descriptor)) → T (areBytes (q .policy)) →
+    16 * length (reportOf q .trail) ≤ 9 * (length (q .descriptor) + length (q .policy))
+trail-bound = bound.trail-bound
+
+pub trail-most : (q : Question) → T (areBytes (q .descriptor)) → T (areBytes (q .policy)) → length (reportOf q .trail) ≤ 184319
+trail-most = bound.trail-most
+
+pub file-trail-most : (s : List ℕ) → T (areBytes s) → length (fileReport s .trail) ≤ 36864
+file-trail-most = file-bound.file-trail-most
+
+-- "A staged SACL now raises the staging flag when its events would differ from the effective SACL's, entry numbers aside", beside the
+-- staged access lists
+pub flag-is : (q : Question) → Accepted q → checked q .staged ≡ (byLists q (tokenIn q) .staged || raisedFor q (tokenIn q))
+flag-is = trail.flag-is
 
 -- ---- #106 Where did my rights go. "four masks: after normal evaluation, after confinement, after policy, and granted, each limited to asked
 -- bits. Each lies within the one before; the last two are equal." Of every answer; what each mask is, `accepted-answer` of Promises.antt says

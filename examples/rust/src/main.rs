@@ -1,18 +1,22 @@
-//! Asks document 01's card c1, may the user S-1-5-0-7 read this file, and then what keeps them from
-//! deleting it.
+//! Asks document 01's card c1, may the user S-1-5-0-7 read this file, then what keeps them from
+//! deleting it, and what the file's audit entry notes if they try.
 
-use pirasteh::{check, mask, why, Descriptor, Kind, Policy, Question, SelfId, Token};
+use pirasteh::{check, events, mask, trail, trail_bound, why};
+use pirasteh::{Descriptor, Kind, Policy, Question, SelfId, Token};
 use std::process::ExitCode;
 
 /// The user S-1-5-0-7, without groups.
 const TOKEN: [u8; 8] = [0x01, 0x00, 0x00, 0x02, 0x05, 0x00, 0x07, 0x00];
 
-/// Owned by S-1-5-7; its list allows S-1-5-0-7 generic read.
+/// Owned by S-1-5-7; its list allows S-1-5-0-7 generic read, and its SACL has an audit entry for
+/// S-1-5-0-7: failure at anything.
 #[rustfmt::skip]
-const DESCRIPTOR: [u8; 64] = [
-    0x01, 0x00, 0x04, 0x80, 0x14, 0x00, 0x00, 0x00, 0x00, 0x00, 0x00, 0x00, 0x00, 0x00, 0x00, 0x00,
+const DESCRIPTOR: [u8; 96] = [
+    0x01, 0x00, 0x14, 0x80, 0x14, 0x00, 0x00, 0x00, 0x00, 0x00, 0x00, 0x00, 0x40, 0x00, 0x00, 0x00,
     0x20, 0x00, 0x00, 0x00, 0x01, 0x01, 0x00, 0x00, 0x00, 0x00, 0x00, 0x05, 0x07, 0x00, 0x00, 0x00,
     0x02, 0x00, 0x20, 0x00, 0x01, 0x00, 0x00, 0x00, 0x00, 0x00, 0x18, 0x00, 0x00, 0x00, 0x00, 0x80,
+    0x01, 0x02, 0x00, 0x00, 0x00, 0x00, 0x00, 0x05, 0x00, 0x00, 0x00, 0x00, 0x07, 0x00, 0x00, 0x00,
+    0x02, 0x00, 0x20, 0x00, 0x01, 0x00, 0x00, 0x00, 0x02, 0x80, 0x18, 0x00, 0x00, 0x00, 0x00, 0x10,
     0x01, 0x02, 0x00, 0x00, 0x00, 0x00, 0x00, 0x05, 0x00, 0x00, 0x00, 0x00, 0x07, 0x00, 0x00, 0x00,
 ];
 
@@ -37,7 +41,9 @@ fn main() -> ExitCode {
             false
         }
     };
-    explain(&Question { mask: mask::DELETE, ..read });
+    let delete = Question { mask: mask::DELETE, ..read };
+    explain(&delete);
+    note(&delete);
     if allowed {
         ExitCode::SUCCESS
     } else {
@@ -49,6 +55,18 @@ fn main() -> ExitCode {
 fn explain(question: &Question<'_>) {
     match why(question) {
         Ok(why) => why.lost().for_each(|lost| println!("{lost}")),
+        Err(error) => println!("{error}"),
+    }
+}
+
+/// Prints each event that the audit entries of the object and of the policy raise.
+fn note(question: &Question<'_>) {
+    let mut room = vec![0; trail_bound(question.descriptor.0.len(), question.policy.0.len())];
+    match trail(question, &mut room) {
+        Ok(traced) => events(&room[..traced.length]).for_each(|event| match event {
+            Ok(event) => println!("{event}"),
+            Err(no_trail) => println!("{no_trail}"),
+        }),
         Err(error) => println!("{error}"),
     }
 }

@@ -3,8 +3,9 @@
 
 /// The record's bytes once, and all lists.
 pub fn scan(token: &[u8], descriptor: &[u8], policy: &[u8]) -> u64 {
-    let dacl = u32_at(descriptor, 16) as usize;
-    bytes(token) + list(&descriptor[dacl..]) + sections(policy)
+    let at = |field: usize| u32_at(descriptor, field) as usize;
+    let sacl = if descriptor[2] & 0x10 != 0 { list(&descriptor[at(12)..]) } else { 0 };
+    bytes(token) + sacl + list(&descriptor[at(16)..]) + sections(policy)
 }
 
 /// Added up in one byte, which many at a time can be.
@@ -63,6 +64,8 @@ mod tests {
         let descriptor = Descriptor::owned_by(&sid(5, &[18])).dacl(&one).bytes();
         let rules = policy(&[Rule::of(&other), Rule::of(&one).staged(&other)]);
         assert_eq!(scan(&[], &descriptor, &[]), 3);
+        let audited = Descriptor::owned_by(&sid(5, &[18])).sacl(&other).dacl(&one).bytes();
+        assert_eq!(scan(&[], &audited, &[]), 90 + 3);
         assert_eq!(scan(&[100, 101], &descriptor, &rules), 201 + 3 + 90 + 3 + 90);
     }
 }

@@ -1,7 +1,7 @@
 //! The groups of rows, and which of them are asked for.
 
 use crate::sheet::Sheet;
-use crate::{checks, conditions, conversions, why};
+use crate::{checks, conditions, conversions, trail, why};
 
 pub struct Group {
     pub name: &'static str,
@@ -10,7 +10,7 @@ pub struct Group {
     pub rows: fn(&mut Sheet),
 }
 
-pub const GROUPS: [Group; 10] = [
+pub const GROUPS: [Group; 11] = [
     Group {
         name: "table",
         about: "no entry names the asker, or the first one does and allows everything",
@@ -62,6 +62,14 @@ pub const GROUPS: [Group; 10] = [
                 is confined and there are more than one, the package, and allow everything, or no entry \
                 names either",
         rows: why::rows,
+    },
+    Group {
+        name: "trail",
+        about: "pirasteh_trail; entries are those of the descriptor's SACL, or of each effective \
+                and staged SACL of a rule, and the buffer has room for any trail of such a \
+                question, or just for this one; the DACLs have 8 entries, of which the last allows \
+                the asker everything",
+        rows: trail::rows,
     },
     Group {
         name: "conversions",

@@ -21,6 +21,7 @@ mod people;
 mod plain;
 mod sheet;
 mod timing;
+mod trail;
 mod why;
 
 use groups::{Group, GROUPS};

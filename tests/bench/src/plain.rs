@@ -3,9 +3,11 @@
 //!
 //! The token is decoded once, into a buffer on the stack. Each list is walked once: its shape is
 //! judged and its entries are taken in the same walk. An entry is matched only if it has a bit
-//! that is asked and not decided, and its condition evaluated only if it matches. Nothing is
-//! allocated.
+//! that is asked and not decided, and its condition evaluated only if it matches. A SACL is walked
+//! once more where it has an audit entry that may raise an event, and the trail is measured before
+//! it is written only where the buffer might be too short. Nothing is allocated.
 
+mod audit;
 mod condition;
 mod convert;
 mod token;
@@ -13,9 +15,10 @@ mod walk;
 
 pub use convert::{list, pack};
 
+use audit::{differ, events, sacl, Speaking, Trail};
 use condition::Fault;
 use token::{Stack, Token, MOST_CONFINED, MOST_NORMAL};
-use walk::{dacl, evaluated, sacl, Party, Setting};
+use walk::{dacl, evaluated, Party, Setting};
 
 #[derive(Clone, Copy, Debug, PartialEq, Eq)]
 pub struct Answer {
@@ -107,7 +110,7 @@ pub fn check(
     policy: &[u8],
 ) -> Result<Answer, u32> {
     let Why { granted, allowed, staged, .. } =
-        answered(kind, mask, token, self_id, descriptor, policy)?;
+        answered(kind, mask, token, self_id, descriptor, policy, None)?;
     Ok(Answer { granted, allowed, staged })
 }
 
@@ -120,10 +123,26 @@ pub fn why(
     descriptor: &[u8],
     policy: &[u8],
 ) -> Result<Why, u32> {
-    answered(kind, mask, token, self_id, descriptor, policy)
+    answered(kind, mask, token, self_id, descriptor, policy, None)
 }
 
-/// Inlined into both, so that neither pays for what it does not tell.
+/// An answer without its way there, and the length of its trail.
+pub fn trail(
+    kind: u32,
+    mask: u32,
+    token: &[u8],
+    self_id: &[u8],
+    descriptor: &[u8],
+    policy: &[u8],
+    out: &mut [u8],
+) -> Result<(Answer, usize), u32> {
+    let mut trail = Trail { out, length: 0 };
+    let Why { granted, allowed, staged, .. } =
+        answered(kind, mask, token, self_id, descriptor, policy, Some(&mut trail))?;
+    Ok((Answer { granted, allowed, staged }, trail.length))
+}
+
+/// Inlined into all, so that none pays for what it does not tell.
 #[inline(always)]
 fn answered(
     kind: u32,
@@ -132,6 +151,7 @@ fn answered(
     self_id: &[u8],
     descriptor: &[u8],
     policy: &[u8],
+    trail: Option<&mut Trail>,
 ) -> Result<Why, u32> {
     if kind != 1 && kind != 2 {
         return Err(1);
@@ -174,10 +194,6 @@ fn answered(
     if group_at != 0 {
         part(group_at).and_then(sid_length).ok_or(6u32)?;
     }
-    if d[2] & 0x10 != 0 {
-        part(u32_at(d, 12)).and_then(sacl).ok_or(6u32)?;
-    }
-
     // The list's shape is judged before the missing owner is told, so without one there is an
     // empty owner, which matches nothing.
     let owner_sid = owner.unwrap_or(&[]);
@@ -204,8 +220,14 @@ fn answered(
         privileges |= 0x8_0000;
     }
     let confined = (decoded.flags == 1).then(|| Party::new(confined, confined, owner_sid, self_id));
-    let setting = Setting { rights, asked, normal, confined, owner_rights, privileges };
+    let audited = explicit & all;
+    let setting = Setting { rights, asked, audited, normal, confined, owner_rights, privileges };
 
+    let mut heard = (0, &[][..]);
+    if d[2] & 0x10 != 0 {
+        let list = part(u32_at(d, 12)).ok_or(6u32)?;
+        heard = (sacl(&setting, list).ok_or(6u32)?.flags, list);
+    }
     let (normal, left) = if d[2] & 0x04 != 0 {
         let (_, walked) =
             part(u32_at(d, 16)).and_then(|list| dacl(&setting, asked, true, list)).ok_or(6u32)?;
@@ -227,8 +249,25 @@ fn answered(
 
     let confined = normal & left;
     let mut granted = confined;
-    let staged = rules(&setting, policy, &mut granted)?;
+    let (mut staged, speaking) = rules(&setting, policy, &mut granted)?;
     let allowed = explicit & !granted == 0 && (mask & MAXIMUM == 0 || granted != 0);
+
+    let flag = if allowed { 0x40 } else { 0x80 };
+    speaking.each(policy, |_, effective, proposed| {
+        staged = staged || differ(&setting, flag, effective, proposed);
+    });
+    if let Some(trail) = trail {
+        let list = if heard.0 & flag != 0 { heard.1 } else { &[] };
+        let bound = 9 * (descriptor.len() + policy.len()) / 16;
+        let told = trail.write(bound, |event| {
+            events(&setting, flag, list).for_each(|(entry, mask)| event(0, entry, mask));
+            speaking.each(policy, |rule, effective, _| {
+                let all = events(&setting, flag, effective);
+                all.for_each(|(entry, mask)| event(rule, entry, mask));
+            });
+        });
+        told.ok_or(11u32)?;
+    }
     Ok(Why { asked, normal, confined, ruled: granted, granted, allowed, staged })
 }
 
@@ -244,10 +283,12 @@ fn applies(setting: &Setting, section: &[u8]) -> Result<bool, Fault> {
     Ok(condition::holds(section, &setting.normal))
 }
 
-/// Judges a policy and narrows what is granted by its rules. Gives the staging flag.
-fn rules(setting: &Setting, policy: &[u8], granted: &mut u32) -> Result<bool, u32> {
+/// Judges a policy and narrows what is granted by its rules. Gives the staging flag, as far as it
+/// is raised by results, and the rules that have audit entries.
+fn rules(setting: &Setting, policy: &[u8], granted: &mut u32) -> Result<(bool, Speaking), u32> {
+    let mut speaking = Speaking::default();
     if policy.is_empty() {
-        return Ok(false);
+        return Ok((false, speaking));
     }
     if policy.len() < 5 || policy.len() > 262_144 || policy[0] != 1 {
         return Err(9);
@@ -259,7 +300,7 @@ fn rules(setting: &Setting, policy: &[u8], granted: &mut u32) -> Result<bool, u3
     let mut unread = false;
     let mut staged = false;
     let mut rest = &policy[5..];
-    for _ in 0..count {
+    for number in 0..count {
         let mut section = || {
             if rest.len() < 4 {
                 return Err(9u32);
@@ -273,11 +314,11 @@ fn rules(setting: &Setting, policy: &[u8], granted: &mut u32) -> Result<bool, u3
             Ok(front)
         };
         let audit = |bytes: &[u8]| {
-            if bytes.is_empty() || sacl(bytes) == Some(bytes.len()) {
-                Ok(())
-            } else {
-                Err(9u32)
+            if bytes.is_empty() {
+                return Ok(0);
             }
+            let heard = sacl(setting, bytes).filter(|heard| heard.size == bytes.len());
+            heard.map(|heard| heard.flags & 0xC0).ok_or(9u32)
         };
         let applies = match applies(setting, section()?) {
             Ok(applies) => applies,
@@ -294,7 +335,7 @@ fn rules(setting: &Setting, policy: &[u8], granted: &mut u32) -> Result<bool, u3
         };
         let (_, effective) = list(section()?)?;
         unread |= effective.unread;
-        audit(section()?)?;
+        let told = audit(section()?)?;
         let effective = evaluated(setting, &effective);
         if applies {
             *granted &= effective;
@@ -305,7 +346,9 @@ fn rules(setting: &Setting, policy: &[u8], granted: &mut u32) -> Result<bool, u3
             unread |= proposed.unread;
             staged |= applies && (evaluated(setting, &proposed) ^ effective) & setting.asked != 0;
         }
-        audit(section()?)?;
+        if told | audit(section()?)? != 0 && applies {
+            speaking.add(number);
+        }
     }
     if !rest.is_empty() {
         return Err(9);
@@ -313,13 +356,30 @@ fn rules(setting: &Setting, policy: &[u8], granted: &mut u32) -> Result<bool, u3
     if unread {
         return Err(10);
     }
-    Ok(staged)
+    Ok((staged, speaking))
 }
 
 #[cfg(test)]
 mod tests {
     use super::token::{LISTING_MAX, RECORD_MAX};
     use super::*;
+
+    /// With enough room, just enough, and a byte too little.
+    fn trails_agree(q: &Question, name: &str) {
+        let Question { kind, mask, token, self_id, descriptor, policy } = q;
+        let expected =
+            reference::check_and_events(*kind, *mask, token, self_id, descriptor, policy);
+        let needed = expected.as_ref().map_or(0, |(_, events)| reference::trail(events).len());
+        let bound = 9 * (descriptor.len() + policy.len()) / 16;
+        for room in [bound, needed, needed.saturating_sub(1)] {
+            let (mut out, mut lent) = (vec![0x5A; room], vec![0x5A; room]);
+            let said = trail(*kind, *mask, token, self_id, descriptor, policy, &mut out);
+            let said = said.map(|(a, n)| (a.granted, a.allowed, a.staged, n));
+            let expected = reference::lend_trail(expected.clone(), &mut lent);
+            let expected = expected.map(|(a, n)| (a.granted, a.allowed, a.staged, n));
+            assert_eq!((said, out), (expected, lent), "{name}, a room of {room}");
+        }
+    }
     use pirasteh_cases::make::Question;
     use pirasteh_cases::random::{case, Case};
     use pirasteh_reference as reference;
@@ -338,6 +398,7 @@ mod tests {
                     assert_eq!(said, short, "case {number} of seed 7");
                     let said = why(*kind, *mask, token, self_id, descriptor, policy);
                     assert_eq!(said, expected.map(Why::from), "case {number} of seed 7, masks");
+                    trails_agree(&q, &format!("case {number} of seed 7"));
                 }
                 Case::File(_) => {}
                 Case::List(record, _) => {

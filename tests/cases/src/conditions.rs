@@ -14,6 +14,7 @@ mod whole;
 use crate::make::Question;
 use crate::random::Case;
 use crate::rng::Rng;
+pub(crate) use cast::Cast;
 pub use place::{Pass, Place, PASSES};
 pub use whole::{spoiled, whole};
 

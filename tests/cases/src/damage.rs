@@ -382,9 +382,9 @@ fn a_list(rng: &mut Rng, laid: &mut Laid) {
             }
         }
         9 => {
-            // An entry of a header alone: well shaped in a SACL or of another type.
+            // An entry of a header alone: well shaped if its type is not read in its list.
             let entry = rng.of(&entries);
-            laid.bytes[entry] = rng.of(&[0, 1, 5]);
+            laid.bytes[entry] = rng.of(&[0, 1, 2, 5]);
             laid.put_u16(entry + 2, 4);
             laid.put_u16(at + 4, 1 + rng.below(usize::from(count)) as u16);
         }

@@ -2,6 +2,7 @@
 //!
 //! Nothing here reads what it makes, or knows what the answer should be.
 
+pub mod audits;
 mod children;
 pub mod conditions;
 pub mod crowds;

@@ -1,6 +1,7 @@
 //! Random cases from a seed: questions that are mostly accepted, and conversions. `damage`
 //! spoils some of them.
 
+use crate::audits;
 use crate::children;
 use crate::conditions;
 use crate::crowds;
@@ -54,6 +55,8 @@ const SEATS: u64 = 16;
 const WORDS: u64 = 128;
 /// One in so many is about conditions.
 const CONDITIONS: u64 = 16;
+/// One in so many is about audit entries, but for those about words.
+const AUDITS: u64 = 8;
 
 /// What some cases are about, each with its turn.
 #[derive(Clone, Copy, Debug, PartialEq, Eq)]
@@ -64,6 +67,7 @@ pub enum About {
     Seats(u64),
     Words(u64),
     Conditions(u64),
+    Audits(u64),
 }
 
 /// What the case of this number is about, if it has such an aim.
@@ -76,6 +80,9 @@ pub fn about(number: u64) -> Option<About> {
     }
     if number % CONDITIONS == 9 {
         return Some(About::Conditions(number / CONDITIONS));
+    }
+    if number % AUDITS == 5 {
+        return Some(About::Audits(number / AUDITS));
     }
     let (turn, about) = (number / AIMED / AIMS, number / AIMED % AIMS);
     (number % AIMED == 3).then_some(match about {
@@ -98,6 +105,7 @@ pub fn case(seed: u64, number: u64) -> Case {
         Some(About::Seats(turn)) => return crowds::seats::case(rng, turn),
         Some(About::Words(turn)) => return numbers::words::case(rng, turn),
         Some(About::Conditions(turn)) => return conditions::case(rng, turn),
+        Some(About::Audits(turn)) => return audits::case(rng, turn),
         None => {}
     }
     match rng.below(20) {
@@ -263,7 +271,7 @@ fn desired(rng: &mut Rng, kind: u32) -> u32 {
 }
 
 /// An entry's mask: anything, but mostly bits that questions ask for.
-fn entry_mask(rng: &mut Rng) -> u32 {
+pub fn entry_mask(rng: &mut Rng) -> u32 {
     match rng.below(12) {
         0..=3 => rng.u32() & 0x7,
         4 => 1 << rng.below(6),
@@ -412,11 +420,8 @@ fn list(
             } else {
                 make::entry(kind, flags, mask, &people.named(rng))
             });
-        } else if rng.one_in(2) {
-            bytes.extend(make::entry(2, flags, entry_mask(rng), &people.one(rng)));
         } else {
-            let length = 4 * rng.below(5);
-            bytes.extend(make::bare_entry(rng.byte(), flags, &rng.bytes(length)));
+            bytes.extend(audits::entry(rng, &|rng| people.one_or_virtual(rng)));
         }
     }
     if rng.one_in(6) {
@@ -594,10 +599,12 @@ pub fn rule(rng: &mut Rng, people: &People, room: usize) -> LaidRule {
     let mut section =
         |is_dacl, one_in: usize| rng.one_in(one_in).then(|| list(rng, people, is_dacl, 5, room));
     let staged = if people.are_about_owner() { 1 } else { 2 };
-    LaidRule {
-        applies_to,
-        lists: [section(true, 1), section(false, 6), section(true, staged), section(false, 6)],
+    let mut lists = [section(true, 1), section(false, 3), section(true, staged), section(false, 6)];
+    if rng.one_in(4) {
+        // The same once more, or nothing where there is nothing.
+        lists[3] = lists[1].clone();
     }
+    LaidRule { applies_to, lists }
 }
 
 /// A policy's bytes, and where its section lengths stand.

@@ -12,6 +12,7 @@ use crate::numbers::{self, words};
 use crate::rooms;
 use crate::spare;
 use crate::steps;
+use crate::trails::{self, Events};
 use pirasteh_cases::hex;
 use pirasteh_cases::make::Question;
 use pirasteh_cases::numbers::Place;
@@ -39,8 +40,9 @@ const STATUS: [&str; 13] = [
 ];
 
 /// What has to be reached besides, and all of `children::ROWS`, of `gained::ROWS` and of the tables
-/// of `steps`, `numbers`, `rooms`, `crowds`, `decided`, `seats`, `words` and `conditions`.
-const REACHED: [&str; 14] = [
+/// of `steps`, `numbers`, `rooms`, `crowds`, `decided`, `seats`, `words`, `conditions` and
+/// `trails`.
+const REACHED: [&str; 20] = [
     "accepted, with spare bytes in an entry of the descriptor's DACL",
     "accepted, with spare bytes in an entry of an effective DACL",
     "accepted, with spare bytes in an entry of a staged DACL",
@@ -55,6 +57,12 @@ const REACHED: [&str; 14] = [
     "asked once more, with strangers' callback entries put in",
     "asked once more, with strangers' callback entries taken out",
     "asked once more, as a question file",
+    "asked once more, with strangers' audit entries put in",
+    "asked once more, with strangers' audit entries taken out",
+    "asked once more, with entries of other types put into its SACLs",
+    "asked once more, with entries of other types taken out of its SACLs",
+    "asked once more, with others for its inherit-only audit entries",
+    "asked once more, with other spare bytes in its audit entries",
 ];
 const SPARE_TWIN: usize = 6;
 /// The first of `children::Way`.
@@ -62,12 +70,14 @@ const CHILDREN_TWIN: usize = 7;
 /// The first of the ways of `conditions::twin`.
 const CONDITIONS_TWIN: usize = 10;
 const FILE_TWIN: usize = 13;
+/// The first of `trails::Way`.
+const AUDITS_TWIN: usize = 14;
 
 /// A longer question file is refused.
 const LONGEST_FILE: usize = 65_536;
 
 /// The aims of `rooms`, `crowds`, `decided`, `seats`, `words` and `conditions` are many, and some of
-/// `steps` are rare: a run of fewer cases is not held to them.
+/// `steps` and `trails` are rare: a run of fewer cases is not held to them.
 const ENOUGH_FOR_AIMS: u64 = 500_000;
 
 /// After this many differences the rest is not looked at.
@@ -76,7 +86,7 @@ const ENOUGH: u32 = 5;
 #[derive(Default)]
 struct Tally {
     status: [u64; 13],
-    reached: [u64; 14],
+    reached: [u64; 20],
     children: children::Table,
     gained: gained::Table,
     steps: steps::Table,
@@ -87,6 +97,7 @@ struct Tally {
     seats: seats::Table,
     words: words::Table,
     conditions: conditions::Table,
+    trails: trails::Table,
     checks: u64,
     files: u64,
     records: u64,
@@ -126,8 +137,8 @@ pub fn many(seed: u64, count: u64) -> bool {
         unreached.extend(tally.aims_unreached());
     } else {
         println!(
-            "not held to steps, rooms, crowds, decided lists, seats, words of five bytes and \
-             conditions: that takes {ENOUGH_FOR_AIMS} cases"
+            "not held to steps, rooms, crowds, decided lists, seats, words of five bytes, \
+             conditions and trails: that takes {ENOUGH_FOR_AIMS} cases"
         );
     }
     for what in &unreached {
@@ -159,8 +170,8 @@ fn compare(
     let dice = rng.u64();
     match case {
         Case::Check(q) => {
-            let expected =
-                reference::check(q.kind, q.mask, &q.token, &q.self_id, &q.descriptor, &q.policy);
+            let events = trails::ask(q);
+            let expected = events.as_ref().map(|(answer, _)| *answer).map_err(|&number| number);
             tally.checks += 1;
             let verdict = expected.map(|answer| answer.verdict());
             tally.answer(&verdict);
@@ -168,10 +179,13 @@ fn compare(
             tally.steps.add(steps::Door::Parts, q.kind, q.mask, &expected);
             tally.numbers.record(Place::Token, &q.token, expected.err());
             tally.rooms.record(&q.token, Door::Check, expected.err());
+            tally.trails.add(steps::Door::Parts, &events);
+            tally.trails.add_entries(q, &events);
             tally.aimed(number, q, &verdict);
             same(expected, library.check(q, dice))?;
-            match expected {
-                Ok(answer) => once_more(library, q, answer, rng, tally),
+            trailed(library, q, &events, rng)?;
+            match events {
+                Ok((answer, events)) => once_more(library, q, answer, &events, rng, tally),
                 Err(_) => Ok(()),
             }
         }
@@ -182,7 +196,10 @@ fn compare(
             tally.steps.add_file(file, &expected);
             tally.numbers.file(file, expected.err());
             tally.rooms.file(file, expected.err());
-            same(expected, library.question(file, dice))
+            same(expected, library.question(file, dice))?;
+            let events = reference::question_and_events(file);
+            tally.trails.add(steps::Door::File, &events);
+            trailed_file(library, file, &events, rng)
         }
         Case::List(record, room) => {
             let result = reference::list(record);
@@ -219,13 +236,44 @@ fn compare(
     }
 }
 
-/// Now and then an accepted question is asked once more, with other spare bytes in its entries, with
-/// other inherit-only entries, with other conditions in strangers' entries, with one rule more, or as
-/// a question file.
+/// A question with its trail, into buffers of several lengths. No trail is longer than it may be.
+fn trailed(
+    library: &mut Library,
+    q: &Question,
+    events: &Events,
+    rng: &mut Rng,
+) -> Result<(), String> {
+    let expected = trails::told(events);
+    let bound = trails::bound(q.descriptor.len(), q.policy.len());
+    if let Ok((_, trail)) = expected.as_ref() {
+        if trail.len() > bound {
+            return Err(format!("a trail of {} bytes, and no more than {bound}", trail.len()));
+        }
+    }
+    let rooms = trails::rooms(rng, &expected, bound);
+    library.trail(q, &rooms, &expected, rng.u64())
+}
+
+/// The same of a question file.
+fn trailed_file(
+    library: &mut Library,
+    file: &[u8],
+    events: &Events,
+    rng: &mut Rng,
+) -> Result<(), String> {
+    let expected = trails::told(events);
+    let rooms = trails::rooms(rng, &expected, trails::bound(file.len(), 0));
+    library.trail_question(file, &rooms, &expected, rng.u64())
+}
+
+/// Now and then an accepted question is asked once more, with other spare bytes in its entries,
+/// with other inherit-only entries, with other conditions in strangers' entries, with other entries
+/// in its SACLs that raise no event, with one rule more, or as a question file.
 fn once_more(
     library: &mut Library,
     q: &Question,
     before: reference::Answer,
+    events: &[reference::Event],
     rng: &mut Rng,
     tally: &mut Tally,
 ) -> Result<(), String> {
@@ -248,9 +296,17 @@ fn once_more(
         }
     }
     if rng.one_in(4) {
-        if let Some((twin, row)) = gained::twin(q, rng) {
+        if let Some((twin, way)) = trails::twin(q, rng) {
+            tally.reached[AUDITS_TWIN + way as usize] += 1;
+            still(library, &twin, before, rng, "other entries in its SACLs")?;
+            still_tells(library, &twin, way, (before, events), rng)?;
+        }
+    }
+    if rng.one_in(4) {
+        if let Some((twin, number, row)) = gained::twin(q, rng) {
             tally.gained[row] += 1;
             gains(library, &twin, before, rng, tally)?;
+            gains_events(library, &twin, number, (before, events), rng)?;
         }
     }
     if rng.one_in(4) {
@@ -260,6 +316,9 @@ fn once_more(
             tally.reached[FILE_TWIN] += 1;
             tally.steps.add_file(&file, &expected);
             same(expected, library.question(&file, rng.u64()))?;
+            let events = Ok((before, events.to_vec()));
+            tally.trails.add(steps::Door::File, &events);
+            trailed_file(library, &file, &events, rng)?;
         }
     }
     Ok(())
@@ -278,6 +337,59 @@ fn still(
         return Ok(());
     }
     Err(format!("library {before:?}, and {said:?} with {with}:{}", lists_of(twin)))
+}
+
+/// What the library says of a twin with its trail: whether it is allowed, and the events.
+fn tells(
+    library: &mut Library,
+    twin: &Question,
+    rng: &mut Rng,
+) -> Result<(Verdict, Vec<[u32; 3]>), String> {
+    let room = trails::bound(twin.descriptor.len(), twin.policy.len());
+    let said = library.trail_of(twin, room, rng.u64())?;
+    let (verdict, trail) =
+        said.map_err(|number| format!("library refuses a twin with {number}:{}", lists_of(twin)))?;
+    let events = trails::read(&trail).ok_or_else(|| {
+        format!("library writes what is no trail, {}:{}", hex::encode(&trail), lists_of(twin))
+    })?;
+    Ok((verdict, events))
+}
+
+/// The library says of a twin with other entries in its SACLs what it said before, and tells the
+/// same events, entry numbers aside; these too where no entry was put in or taken out.
+fn still_tells(
+    library: &mut Library,
+    twin: &Question,
+    way: trails::Way,
+    (before, events): (reference::Answer, &[reference::Event]),
+    rng: &mut Rng,
+) -> Result<(), String> {
+    let (verdict, told) = tells(library, twin, rng)?;
+    let numbered = matches!(way, trails::Way::InheritOnly | trails::Way::Spare);
+    let short = |[source, entry, mask]: [u32; 3]| [source, u32::from(numbered) * entry, mask];
+    let old = events.iter().map(|event| short([event.source, event.entry, event.mask]));
+    if verdict == before.verdict() && old.eq(told.iter().map(|&event| short(event))) {
+        return Ok(());
+    }
+    let (before, now) = (short_of(&events), short_of(&told));
+    Err(format!("library told {before}, and {verdict:?}, {now} by {way:?}:{}", lists_of(twin)))
+}
+
+/// The library tells the events of before, and those of the new rule.
+fn gains_events(
+    library: &mut Library,
+    twin: &Question,
+    number: u32,
+    (before, events): (reference::Answer, &[reference::Event]),
+    rng: &mut Rng,
+) -> Result<(), String> {
+    let (verdict, told) = tells(library, twin, rng)?;
+    let old: Vec<_> = events.iter().map(|event| [event.source, event.entry, event.mask]).collect();
+    if gained::keeps_events(number, (before.allowed, &old), (verdict.allowed, &told)) {
+        return Ok(());
+    }
+    let (before, now) = (short_of(&events), short_of(&told));
+    Err(format!("library told {before}, and {now} with rule {number} gained:{}", lists_of(twin)))
 }
 
 /// The library says of a twin with one rule more what a rule may do. Nor does this take another
@@ -321,11 +433,11 @@ fn same<T: PartialEq + Debug>(expected: Result<T, u32>, said: Said<T>) -> Result
     if said == expected {
         Ok(())
     } else {
-        Err(format!("library {}, reference {}", short(&said), short(&expected)))
+        Err(format!("library {}, reference {}", short_of(&said), short_of(&expected)))
     }
 }
 
-fn short(what: &impl Debug) -> String {
+fn short_of(what: &impl Debug) -> String {
     let mut text = format!("{what:?}");
     if text.len() > 2000 {
         text.truncate(2000);
@@ -426,6 +538,7 @@ impl Tally {
         all.extend(self.seats.unreached());
         all.extend(self.words.unreached());
         all.extend(self.conditions.unreached());
+        all.extend(self.trails.unreached());
         all
     }
 
@@ -461,5 +574,6 @@ impl Tally {
         self.seats.print();
         self.words.print();
         self.conditions.print();
+        self.trails.print();
     }
 }

@@ -11,7 +11,10 @@ mod twin;
 #[cfg(test)]
 mod tests;
 
+pub use faults::is_stranger;
 pub use twin::twin;
+
+use holds::{holds, Set};
 
 use pirasteh_cases::conditions::faults::{Spot, SPOTS};
 use pirasteh_cases::conditions::truths::Row;
@@ -109,6 +112,11 @@ impl Table {
             }
         }
     }
+}
+
+/// Whether a rule with this applies_to applies to the asker.
+pub fn holds_for(q: &Question, applies_to: &[u8]) -> bool {
+    applies_to.is_empty() || holds(q, Set::Normal, applies_to) == Some(true)
 }
 
 const FAULTS: [&str; 2] = ["a broken condition", "another token"];

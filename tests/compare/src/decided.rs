@@ -31,7 +31,7 @@ const GENERIC: [[u32; 4]; 2] =
     [[0x1F_01FF, 0x12_00A0, 0x12_0116, 0x12_0089], [0xF_003F, 0x2_0019, 0x2_0006, 0x2_0019]];
 
 /// The bits of the kind that an entry has.
-fn bits(kind: u32, mask: u32) -> u32 {
+pub fn bits(kind: u32, mask: u32) -> u32 {
     let row = kind as usize - 1;
     let generic = GENERIC[row].iter().enumerate();
     let generic = generic.filter(|(place, _)| mask >> (28 + place) & 1 != 0);

@@ -28,8 +28,9 @@ pub type Table = [u64; ROWS.len()];
 const LONGEST_POLICY: usize = 262_144;
 const MOST_RULES: usize = 256;
 
-/// A question with one rule more, and the row of its place. None if there is no room for it.
-pub fn twin(q: &Question, rng: &mut Rng) -> Option<(Question, usize)> {
+/// A question with one rule more, its number from 1, and the row of its place. None if there is no
+/// room for it.
+pub fn twin(q: &Question, rng: &mut Rng) -> Option<(Question, u32, usize)> {
     let old = if q.policy.is_empty() { vec![] } else { lists::sections(&q.policy)? };
     let rules = old.len() / 5;
     let place = rng.below(rules + 1);
@@ -50,7 +51,7 @@ pub fn twin(q: &Question, rng: &mut Rng) -> Option<(Question, usize)> {
         (false, true) => 3,
     };
     let fits = rules < MOST_RULES && policy.len() <= LONGEST_POLICY;
-    fits.then_some((Question { policy, ..q.clone() }, row))
+    fits.then_some((Question { policy, ..q.clone() }, place as u32 + 1, row))
 }
 
 /// A rule about those whom the question is about.
@@ -71,7 +72,7 @@ fn rule(rng: &mut Rng, q: &Question) -> Option<Rule> {
         rule.applies_to = conditions::whole(rng, &some);
     }
     let audit = make::acl(&[make::entry(2, 0xC0, u32::MAX, user)]);
-    if rng.one_in(6) {
+    if rng.one_in(4) {
         rule.effective_sacl.clone_from(&audit);
     }
     if rng.one_in(6) {
@@ -117,11 +118,24 @@ pub fn compared(before: Answer, after: Answer) -> Result<[bool; 4], &'static str
     if after.allowed && !before.allowed {
         return Err("it is allowed now");
     }
-    if before.staged && !after.staged {
+    // Where it was allowed and is not, other audit entries speak, and those of a staged SACL may
+    // differ no more.
+    if before.staged && !after.staged && before.allowed == after.allowed {
         return Err("the flag is lowered");
     }
     let lost = after.granted != before.granted;
     Ok([lost, lost && after.granted == 0, after.staged && !before.staged, after == before])
+}
+
+/// Whether the events are those of before and of the new rule, which has this number: the rules
+/// behind it are counted on. Another answer has other events.
+pub fn keeps_events(new: u32, before: (bool, &[[u32; 3]]), after: (bool, &[[u32; 3]])) -> bool {
+    if before.0 != after.0 {
+        return true;
+    }
+    let old = after.1.iter().filter(|[source, ..]| *source != new);
+    let old = old.map(|&[source, entry, mask]| [source - u32::from(source > new), entry, mask]);
+    old.eq(before.1.iter().copied())
 }
 
 #[cfg(test)]
@@ -136,7 +150,7 @@ mod tests {
         for number in 0..40_000 {
             let Case::Check(q) = case(3, number) else { continue };
             let Ok(before) = answer(&q) else { continue };
-            if let Some((twin, row)) = twin(&q, &mut Rng::new(4, number)) {
+            if let Some((twin, _, row)) = twin(&q, &mut Rng::new(4, number)) {
                 let after = answer(&twin).unwrap_or_else(|n| panic!("case {number}: refused {n}"));
                 let did = compared(before, after);
                 let did = did.unwrap_or_else(|what| panic!("case {number} of seed 3: {what}"));
@@ -170,5 +184,18 @@ mod tests {
         assert!(compared(before, Answer { asked: 15, ..fewer }).is_err());
         assert!(compared(before, Answer { allowed: true, ..before }).is_err());
         assert!(compared(before, Answer { staged: false, ..before }).is_err());
+        let allowed = Answer { allowed: true, ..before };
+        assert!(compared(allowed, Answer { staged: false, ..before }).is_ok());
+    }
+
+    #[test]
+    fn events_of_a_gained_rule() {
+        let before = [[0, 3, 1], [1, 0, 7], [2, 4, 1]];
+        let after = [[0, 3, 1], [1, 0, 7], [2, 9, 9], [3, 4, 1]];
+        assert!(keeps_events(2, (true, &before), (true, &after)));
+        assert!(!keeps_events(3, (true, &before), (true, &after)));
+        assert!(!keeps_events(2, (true, &before), (true, &before)));
+        assert!(keeps_events(4, (true, &before), (true, &before)));
+        assert!(keeps_events(4, (true, &before), (false, &[])));
     }
 }

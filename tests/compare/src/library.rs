@@ -1,5 +1,7 @@
 //! Calls the library on fenced copies of its inputs, and watches what it does to memory.
 
+pub mod trail;
+
 use crate::fence::{Fence, Spot};
 use pirasteh::{raw, Descriptor, Kind, Listing, Policy, SelfId, Token};
 use pirasteh_cases::make::Question;

@@ -33,7 +33,7 @@ pub fn u32_at(bytes: &[u8], at: usize) -> Option<usize> {
 }
 
 /// The list that begins at `at`.
-fn list_at(whose: Whose, bytes: &[u8], at: usize) -> Option<List<'_>> {
+pub fn list_at(whose: Whose, bytes: &[u8], at: usize) -> Option<List<'_>> {
     let size = u16_at(bytes, at.checked_add(2)?)?;
     let bytes = bytes.get(at..at + size)?;
     (size >= 8).then_some(List { whose, at, bytes })

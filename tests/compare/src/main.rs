@@ -16,8 +16,10 @@ mod library;
 mod lists;
 mod numbers;
 mod rooms;
+mod sacls;
 mod spare;
 mod steps;
+mod trails;
 mod vectors;
 mod who;
 

@@ -1,10 +1,11 @@
 //! Checks library and reference against the vector files of a directory.
 //!
-//! A file holds cases with a blank line between them: `#` lines that give the reason, then
-//! `ask` and `line`, with `masks` if the line is an answer, or two of `record`, `listing` and
-//! `refused`.
+//! A file holds cases with a blank line between them: `#` lines that give the reason, then `ask`
+//! and `line`, with `masks` if the line is an answer and `trail` if that has events, or two of
+//! `record`, `listing` and `refused`.
 
-use crate::library;
+use crate::library::{self, Library};
+use crate::trails;
 use pirasteh::{Error, Listing, Token};
 use pirasteh_cases::hex;
 use pirasteh_cases::make::{self, Question};
@@ -25,8 +26,9 @@ pub fn run(dir: &str) -> bool {
     files.retain(|path| path.extension().is_some_and(|end| end == "txt"));
     files.sort();
     let (mut cases, mut failures) = (0, 0);
+    let library = &mut Library::new();
     for path in &files {
-        let (here, failed) = run_file(path);
+        let (here, failed) = run_file(library, path);
         println!("  {:16} {here:4} cases", path.file_name().unwrap_or_default().to_string_lossy());
         cases += here;
         failures += failed;
@@ -35,7 +37,7 @@ pub fn run(dir: &str) -> bool {
     cases > 0 && failures == 0
 }
 
-fn run_file(path: &Path) -> (usize, usize) {
+fn run_file(library: &mut Library, path: &Path) -> (usize, usize) {
     let text = match fs::read_to_string(path) {
         Ok(text) => text,
         Err(error) => {
@@ -50,7 +52,7 @@ fn run_file(path: &Path) -> (usize, usize) {
             block.lines().filter_map(|line| line.strip_prefix('#')).map(str::trim).collect();
         if block.lines().any(|line| !line.is_empty() && !line.starts_with('#')) {
             cases += 1;
-            if let Err(what) = fields(block).and_then(|fields| run_case(&fields)) {
+            if let Err(what) = fields(block).and_then(|fields| run_case(library, &fields)) {
                 failures += 1;
                 println!("FAILED {}:{first_line}: {}", path.display(), reason.join(" "));
                 println!("  {what}");
@@ -79,19 +81,25 @@ fn bytes(text: &str) -> Result<Vec<u8>, String> {
     hex::decode(text).ok_or_else(|| "not hexadecimal".into())
 }
 
-fn run_case(fields: &Fields) -> Result<(), String> {
+fn run_case(library: &mut Library, fields: &Fields) -> Result<(), String> {
     let names: Vec<&str> = fields.keys().copied().collect();
     match names[..] {
-        ["ask", "line"] | ["ask", "line", "masks"] => {
+        ["ask", "line"] | ["ask", "line", "masks"] | ["ask", "line", "masks", "trail"] => {
             let (line, masks) = (fields["line"], fields.get("masks").copied());
             let masks = match (line.starts_with("refused "), masks) {
                 (true, None) => NO_MASKS,
                 (false, Some(masks)) => masks,
                 _ => return Err("an answer without `masks`, or a refusal with them".into()),
             };
-            ask(&bytes(fields["ask"])?, line, masks)
+            let trail = bytes(fields.get("trail").copied().unwrap_or_default())?;
+            if fields.contains_key("trail") && trail.is_empty() {
+                return Err("a `trail` without events".into());
+            }
+            ask(library, &bytes(fields["ask"])?, line, masks, &trail)
         }
-        ["listing", "record"] => convert(&bytes(fields["record"])?, &bytes(fields["listing"])?),
+        ["listing", "record"] => {
+            convert(library, &bytes(fields["record"])?, &bytes(fields["listing"])?)
+        }
         ["record", "refused"] => {
             let record = bytes(fields["record"])?;
             refuse(
@@ -100,7 +108,7 @@ fn run_case(fields: &Fields) -> Result<(), String> {
                 reference::list(&record),
             )?;
             let file = with_token(&record, &[&make::sid(5, &[])]);
-            ask(&file, &format!("refused {}", fields["refused"]), NO_MASKS)
+            ask(library, &file, &format!("refused {}", fields["refused"]), NO_MASKS, &[])
         }
         ["listing", "refused"] => {
             let listing = bytes(fields["listing"])?;
@@ -122,9 +130,15 @@ fn masks_of(result: &Result<Answer, u32>) -> String {
     reference::masks(result).map(|mask| format!("0x{mask:08x}")).join(" ")
 }
 
-/// One question file, through the wrapper, through the function that tells the masks, and to the
-/// reference.
-fn ask(file: &[u8], line: &str, masks: &str) -> Result<(), String> {
+/// One question file, through the wrapper, through the functions that tell the masks and that write
+/// the trail, and to the reference.
+fn ask(
+    library: &mut Library,
+    file: &[u8],
+    line: &str,
+    masks: &str,
+    trail: &[u8],
+) -> Result<(), String> {
     let safe = match pirasteh::question(file) {
         Ok(answer) => answer.to_string(),
         Err(error) => format!("refused {}", error.number()),
@@ -138,11 +152,38 @@ fn ask(file: &[u8], line: &str, masks: &str) -> Result<(), String> {
         expect(who, &masks_of(&answer), masks)?;
     }
     // The bits asked and the kind stand in no vector.
-    if said == expected {
-        Ok(())
-    } else {
-        Err(format!("library says {said:x?}, reference {expected:x?}"))
+    if said != expected {
+        return Err(format!("library says {said:x?}, reference {expected:x?}"));
     }
+    tell(library, file, trail)
+}
+
+/// By this a buffer ends where its room does and is not filled with small numbers, and the wrapper is
+/// asked too.
+const DICE: u64 = 0x005A_A500_0000_0000;
+
+/// The same with a buffer lent for the trail: of every length from 0 to one more than it needs, but
+/// for the longest trails.
+fn tell(library: &mut Library, file: &[u8], trail: &[u8]) -> Result<(), String> {
+    let events = reference::question_and_events(file);
+    let told = trails::told(&events);
+    let written = told.as_ref().map_or(&[][..], |(_, trail)| trail);
+    expect("reference, with its trail,", &hex::encode(written), &hex::encode(trail))?;
+    let needed = trail.len();
+    let mut rooms: Vec<usize> = (0..=needed.min(300)).collect();
+    if needed > 300 {
+        rooms.extend([needed / 2, needed - 1, needed]);
+    }
+    rooms.push(needed + 1);
+    rooms.push(trails::bound(file.len(), 0) + 64);
+    for &room in &rooms {
+        let mut out = vec![0x5A; room];
+        let lent = reference::lend_trail(events.clone(), &mut out);
+        if needed > room && lent != Err(reference::refused::SHORT_BUFFER) {
+            return Err(format!("reference with a buffer of {room} bytes: {lent:?}"));
+        }
+    }
+    library.trail_question(file, &rooms, &told, DICE)
 }
 
 fn expect(who: &str, said: &str, line: &str) -> Result<(), String> {
@@ -154,7 +195,7 @@ fn expect(who: &str, said: &str, line: &str) -> Result<(), String> {
 }
 
 /// Both ways, and with a buffer that is one byte too short.
-fn convert(record: &[u8], listing: &[u8]) -> Result<(), String> {
+fn convert(library: &mut Library, record: &[u8], listing: &[u8]) -> Result<(), String> {
     if reference::list(record).as_deref() != Ok(listing) {
         return Err("reference lists the record otherwise".into());
     }
@@ -165,7 +206,7 @@ fn convert(record: &[u8], listing: &[u8]) -> Result<(), String> {
     converts("packs the listing", |out| pirasteh::pack(Listing(listing), out), record)?;
     let file = with_token(record, &who(listing));
     let expected = reference::question(&file);
-    ask(&file, &reference::line(&expected), &masks_of(&expected))
+    ask(library, &file, &reference::line(&expected), &masks_of(&expected), &[])
 }
 
 /// The user of a listing and, if it is confined, its confinement identity.

@@ -6,6 +6,7 @@ use crate::sid;
 /// Entry types that this edition reads.
 const ALLOW: u8 = 0;
 const DENY: u8 = 1;
+const AUDIT: u8 = 2;
 const CALLBACK_ALLOW: u8 = 9;
 const CALLBACK_DENY: u8 = 10;
 
@@ -32,9 +33,9 @@ fn u16_at(bytes: &[u8], at: usize) -> Option<usize> {
     Some(usize::from(u16::from_le_bytes([two[0], two[1]])))
 }
 
-/// A list at the front of `bytes`, judged as a SACL is: the list's header, and of each entry
-/// the header and the size.
-pub fn sacl_at_front(bytes: &[u8]) -> Option<Acl<'_>> {
+/// A list at the front of `bytes`, judged as far as every list is: its own header, and of each
+/// entry the header and the size.
+fn at_front(bytes: &[u8]) -> Option<Acl<'_>> {
     let revision = *bytes.first()?;
     if revision != 2 && revision != 4 {
         return None;
@@ -62,12 +63,23 @@ pub fn sacl_at_front(bytes: &[u8]) -> Option<Acl<'_>> {
     Some(Acl { size, entries, has_unread_parts: false })
 }
 
-/// A list at the front of `bytes`, judged as a DACL is: like a SACL, and an entry that is read has
-/// a mask and a SID, whole inside the entry. What an allow or deny entry has behind the SID is
-/// spare; what a callback entry has there is its condition. Other types are well shaped by their
-/// header and size.
+/// A list at the front of `bytes`, judged as a SACL is: an audit entry has a mask and a SID, whole
+/// inside the entry, and what stands behind the SID is spare. Other types are well shaped by their
+/// header and size, allow and deny entries too.
+pub fn sacl_at_front(bytes: &[u8]) -> Option<Acl<'_>> {
+    let list = at_front(bytes)?;
+    for entry in list.entries.iter().filter(|entry| entry.is_audit()) {
+        sid::at_front(entry.bytes.get(8..)?)?;
+    }
+    Some(list)
+}
+
+/// A list at the front of `bytes`, judged as a DACL is: an entry that is read has a mask and a SID,
+/// whole inside the entry. What an allow or deny entry has behind the SID is spare; what a callback
+/// entry has there is its condition. Other types are well shaped by their header and size, audit
+/// entries too.
 pub fn dacl_at_front(bytes: &[u8]) -> Option<Acl<'_>> {
-    let mut list = sacl_at_front(bytes)?;
+    let mut list = at_front(bytes)?;
     for entry in &mut list.entries {
         if !entry.is_read() {
             list.has_unread_parts = true;
@@ -86,10 +98,10 @@ pub fn dacl_at_front(bytes: &[u8]) -> Option<Acl<'_>> {
     Some(list)
 }
 
-/// What is said of an entry here holds of one that is read, in a well-shaped DACL without unread
-/// parts.
+/// What is said of an entry's mask and SID holds of one that is read: of allow and deny entries in
+/// a well-shaped DACL without unread parts, and of audit entries in a well-shaped SACL.
 impl<'a> Entry<'a> {
-    /// Allow and deny entries are read, with a condition or without; others are not.
+    /// Of a DACL allow and deny entries are read, with a condition or without; others are not.
     fn is_read(&self) -> bool {
         matches!(self.kind, ALLOW | DENY) || self.is_callback()
     }
@@ -100,6 +112,17 @@ impl<'a> Entry<'a> {
 
     pub fn is_deny(&self) -> bool {
         matches!(self.kind, DENY | CALLBACK_DENY)
+    }
+
+    /// Of a SACL audit entries are read; others are not.
+    pub fn is_audit(&self) -> bool {
+        self.kind == AUDIT
+    }
+
+    /// Whether an audit entry is about questions that are answered so: about those that are
+    /// allowed, about those that are not, about both or about none.
+    pub fn audits(&self, allowed: bool) -> bool {
+        self.flags & if allowed { 0x40 } else { 0x80 } != 0
     }
 
     pub fn is_inherit_only(&self) -> bool {
@@ -113,7 +136,7 @@ impl<'a> Entry<'a> {
 
     /// The identity, without what stands behind it.
     pub fn sid(&self) -> &'a [u8] {
-        sid::at_front(&self.bytes[8..]).expect("a well-shaped DACL has a SID here")
+        sid::at_front(&self.bytes[8..]).expect("an entry that is read has a SID here")
     }
 
     /// Whether its condition is true, or it has none.

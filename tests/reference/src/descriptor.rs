@@ -7,6 +7,8 @@ use crate::sid;
 pub struct Descriptor<'a> {
     /// None if the owner's offset is 0.
     pub owner: Option<&'a [u8]>,
+    /// None if there is none.
+    pub sacl: Option<Acl<'a>>,
     /// None for a null DACL.
     pub dacl: Option<Acl<'a>>,
 }
@@ -43,14 +45,16 @@ pub fn read(bytes: &[u8]) -> Option<Descriptor<'_>> {
     if group_at != 0 {
         sid::at_front(part(bytes, group_at)?)?;
     }
-    if control & SACL_PRESENT != 0 {
-        acl::sacl_at_front(part(bytes, sacl_at)?)?;
-    }
-    // With the bit clear the offset is not followed, whatever it holds.
+    // With a bit clear its offset is not followed, whatever it holds.
+    let sacl = if control & SACL_PRESENT != 0 {
+        Some(acl::sacl_at_front(part(bytes, sacl_at)?)?)
+    } else {
+        None
+    };
     let dacl = if control & DACL_PRESENT != 0 {
         Some(acl::dacl_at_front(part(bytes, dacl_at)?)?)
     } else {
         None
     };
-    Some(Descriptor { owner, dacl })
+    Some(Descriptor { owner, sacl, dacl })
 }

@@ -1,5 +1,5 @@
 //! From well-shaped parts to an answer: matching, the pass over a list, normal evaluation,
-//! confinement, rules.
+//! confinement, rules; and from an answer to the events that it raises.
 
 #[cfg(test)]
 mod tests;
@@ -9,7 +9,7 @@ use crate::masks::{self, Rights, MAXIMUM};
 use crate::policy::Rule;
 use crate::sid;
 use crate::token::{Token, SECURITY_PRIVILEGE, TAKE_OWNERSHIP_PRIVILEGE};
-use crate::Answer;
+use crate::{Answer, Event};
 
 /// What stays the same through one question.
 pub struct Setting<'a> {
@@ -146,12 +146,17 @@ fn confinement(setting: &Setting, list: Option<&Acl>) -> u32 {
     pass(setting, &listed, list)
 }
 
-/// What every rule that applies leaves, and the staging flag.
+/// Whether a rule applies. That goes by the normal identities.
+fn applies(setting: &Setting, rule: &Rule) -> bool {
+    let listed = normal_identities(setting.token);
+    rule.applies(|sid| is_member(setting, &listed, sid))
+}
+
+/// What every rule that applies leaves, and whether one of these stages another result.
 fn policy(setting: &Setting, asked: u32, rules: &[Rule]) -> (u32, bool) {
     let mut left = u32::MAX;
     let mut staged = false;
-    let listed = normal_identities(setting.token);
-    for rule in rules.iter().filter(|rule| rule.applies(|sid| is_member(setting, &listed, sid))) {
+    for rule in rules.iter().filter(|rule| applies(setting, rule)) {
         let effective = normal(setting, Some(&rule.effective));
         left &= effective;
         if let Some(list) = &rule.staged {
@@ -162,20 +167,78 @@ fn policy(setting: &Setting, asked: u32, rules: &[Rule]) -> (u32, bool) {
     (left, staged)
 }
 
-/// The answer to an accepted question: the asked bits, and what each step leaves of them.
-pub fn answer(setting: &Setting, mask: u32, dacl: Option<&Acl>, rules: &[Rule]) -> Answer {
+/// What an audit is about: the bits that were named, and whether the answer is yes.
+#[derive(Clone, Copy)]
+struct Outcome {
+    explicit: u32,
+    allowed: bool,
+}
+
+/// The events of one SACL, in stored order. Entries of all types are counted, from 0. An absent
+/// list has none.
+fn events(setting: &Setting, outcome: Outcome, source: u32, list: Option<&Acl>) -> Vec<Event> {
+    let listed = normal_identities(setting.token);
+    let mut all = Vec::new();
+    for (number, entry) in list.map_or(&[][..], |list| &list.entries).iter().enumerate() {
+        // Nothing else is asked of an entry of another type: it need not have a mask and a SID.
+        if entry.is_audit()
+            && !entry.is_inherit_only()
+            && matches(setting, &listed, entry.sid()).deny
+            && setting.rights.of_entry(entry.mask()) & outcome.explicit != 0
+            && entry.audits(outcome.allowed)
+        {
+            all.push(Event { source, entry: number as u32, mask: entry.mask() });
+        }
+    }
+    all
+}
+
+/// Whether a staged SACL would raise other events than the effective one, entry numbers aside. A
+/// rule that has none stages nothing.
+fn stages_events(setting: &Setting, outcome: Outcome, rule: &Rule) -> bool {
+    let masks = |list| -> Vec<u32> {
+        events(setting, outcome, 0, list).iter().map(|event| event.mask).collect()
+    };
+    rule.staged_sacl.is_some()
+        && masks(rule.staged_sacl.as_ref()) != masks(rule.effective_sacl.as_ref())
+}
+
+/// What the descriptor has for an answer. None for a null DACL, and for a SACL that is not there.
+pub struct Lists<'a> {
+    pub dacl: Option<&'a Acl<'a>>,
+    pub sacl: Option<&'a Acl<'a>>,
+}
+
+/// The answer to an accepted question: the asked bits, and what each step leaves of them; and the
+/// events, of the descriptor's SACL and of each applying rule's effective one.
+pub fn answer(
+    setting: &Setting,
+    mask: u32,
+    descriptor: &Lists,
+    rules: &[Rule],
+) -> (Answer, Vec<Event>) {
     let asked = setting.rights.asked(mask);
     let explicit = setting.rights.explicit(mask);
 
     // Owner's rights and privileges are inside the first.
-    let normal = asked & normal(setting, dacl);
-    let confined = normal & confinement(setting, dacl);
-    let (left, staged) = policy(setting, asked, rules);
+    let normal = asked & normal(setting, descriptor.dacl);
+    let confined = normal & confinement(setting, descriptor.dacl);
+    let (left, mut staged) = policy(setting, asked, rules);
     let ruled = confined & left;
     // Nothing comes after the policy.
     let granted = ruled;
 
     let wanted_something = mask & MAXIMUM != 0;
     let allowed = explicit & !granted == 0 && !(wanted_something && granted == 0);
-    Answer { asked, normal, confined, ruled, granted, allowed, staged }
+
+    // Events go by the final answer.
+    let outcome = Outcome { explicit, allowed };
+    let mut trail = events(setting, outcome, 0, descriptor.sacl);
+    for (number, rule) in (1..).zip(rules) {
+        if applies(setting, rule) {
+            trail.extend(events(setting, outcome, number, rule.effective_sacl.as_ref()));
+            staged |= stages_events(setting, outcome, rule);
+        }
+    }
+    (Answer { asked, normal, confined, ruled, granted, allowed, staged }, trail)
 }

@@ -1,7 +1,7 @@
 //! The access check once more, in plain Rust.
 //!
-//! Written from document 01 alone, with requests 101, 102, 103 and 106 of document 02, and not from
-//! the proved library, so that the two can be compared. It is meant to be read: it copies and
+//! Written from document 01 alone, with requests 101, 102, 103, 105 and 106 of document 02, and not
+//! from the proved library, so that the two can be compared. It is meant to be read: it copies and
 //! allocates freely, and every step stands where the document has it. For speed look elsewhere.
 //!
 //! Refusals are the document's numbers as they are, in `Err`.
@@ -68,7 +68,18 @@ impl Answer {
     }
 }
 
-/// One question, from its parts. The refusals come in the order of their numbers.
+/// One event: an audit entry that has something to say about an answer.
+#[derive(Clone, Copy, Debug, PartialEq, Eq)]
+pub struct Event {
+    /// 0 for the descriptor's SACL, else the number of the rule, from 1.
+    pub source: u32,
+    /// The entry's number in its SACL, from 0.
+    pub entry: u32,
+    /// The entry's mask as stored.
+    pub mask: u32,
+}
+
+/// One question, from its parts.
 pub fn check(
     kind: u32,
     mask: u32,
@@ -77,6 +88,19 @@ pub fn check(
     descriptor: &[u8],
     policy: &[u8],
 ) -> Result<Answer, u32> {
+    let said = check_and_events(kind, mask, token, self_id, descriptor, policy);
+    said.map(|(answer, _)| answer)
+}
+
+/// The same, with the events. The refusals come in the order of their numbers.
+pub fn check_and_events(
+    kind: u32,
+    mask: u32,
+    token: &[u8],
+    self_id: &[u8],
+    descriptor: &[u8],
+    policy: &[u8],
+) -> Result<(Answer, Vec<Event>), u32> {
     let rights = masks::rights_of(kind).ok_or(refused::KIND)?;
     if !rights.may_be_asked(mask) {
         return Err(refused::MASK);
@@ -105,7 +129,7 @@ pub fn check(
     Ok(evaluate::answer(
         &evaluate::Setting { rights, token: &token, owner, self_id },
         mask,
-        descriptor.dacl.as_ref(),
+        &evaluate::Lists { dacl: descriptor.dacl.as_ref(), sacl: descriptor.sacl.as_ref() },
         &rules,
     ))
 }
@@ -120,6 +144,35 @@ pub fn question_and_kind(bytes: &[u8]) -> Result<(Answer, u32), u32> {
     let q = file::read(bytes).ok_or(refused::FILE_SHAPE)?;
     let answer = check(q.kind, q.mask, q.token, q.self_id, q.descriptor, q.policy)?;
     Ok((answer, q.kind))
+}
+
+/// The same, with the events.
+pub fn question_and_events(bytes: &[u8]) -> Result<(Answer, Vec<Event>), u32> {
+    let q = file::read(bytes).ok_or(refused::FILE_SHAPE)?;
+    check_and_events(q.kind, q.mask, q.token, q.self_id, q.descriptor, q.policy)
+}
+
+/// The bytes of some events: source, entry number and mask of each, in sevens.
+pub fn trail(events: &[Event]) -> Vec<u8> {
+    let mut out = Vec::new();
+    for event in events {
+        for number in [event.source, event.entry, event.mask] {
+            sevens::put(&mut out, u64::from(number));
+        }
+    }
+    out
+}
+
+/// What becomes of an answer for whose trail a buffer is lent. The trail is written only if all of
+/// it fits, and only as far as it goes; else there is no answer. This refusal comes after all
+/// others.
+pub fn lend_trail(
+    result: Result<(Answer, Vec<Event>), u32>,
+    out: &mut [u8],
+) -> Result<(Answer, usize), u32> {
+    let (answer, events) = result?;
+    let length = lend(Ok(trail(&events)), out)?;
+    Ok((answer, length))
 }
 
 /// Packed token record to flat listing.
@@ -140,8 +193,8 @@ pub fn pack(bytes: &[u8]) -> Result<Vec<u8>, u32> {
     Ok(record::write(&token))
 }
 
-/// What a converter does with a lent buffer: it is written only if the whole result fits,
-/// and only as far as the result goes.
+/// What is done with a lent buffer: it is written only if the whole result fits, and only as far as
+/// the result goes.
 pub fn lend(result: Result<Vec<u8>, u32>, out: &mut [u8]) -> Result<usize, u32> {
     let bytes = result?;
     if bytes.len() > out.len() {

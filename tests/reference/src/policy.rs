@@ -6,8 +6,10 @@ use crate::condition::{self, Condition, Fault};
 pub struct Rule<'a> {
     applies_to: AppliesTo<'a>,
     pub effective: Acl<'a>,
-    /// None if the section is empty.
+    /// Of these, None if the section is empty.
+    pub effective_sacl: Option<Acl<'a>>,
     pub staged: Option<Acl<'a>>,
+    pub staged_sacl: Option<Acl<'a>>,
 }
 
 /// To whom a rule applies.
@@ -57,14 +59,21 @@ fn take_section<'a>(rest: &mut &'a [u8]) -> Option<&'a [u8]> {
     take(rest, length)
 }
 
+/// Reads the list at the front of some bytes.
+type Reader = for<'a> fn(&'a [u8]) -> Option<Acl<'a>>;
+
 /// A list that fills its section.
-fn whole<'a>(section: &[u8], list: Option<Acl<'a>>) -> Option<Acl<'a>> {
-    list.filter(|list| list.size == section.len())
+fn whole(section: &[u8], read: Reader) -> Option<Acl<'_>> {
+    read(section).filter(|list| list.size == section.len())
 }
 
-/// A SACL section is empty or one list. Nothing of it is used.
-fn sacl_is_well_shaped(section: &[u8]) -> bool {
-    section.is_empty() || whole(section, acl::sacl_at_front(section)).is_some()
+/// A section that may be empty, which is then no list: `Some(None)`.
+fn whole_or_none(section: &[u8], read: Reader) -> Option<Option<Acl<'_>>> {
+    if section.is_empty() {
+        Some(None)
+    } else {
+        Some(Some(whole(section, read)?))
+    }
 }
 
 /// The first section of a rule. None if it is too long, or broken.
@@ -101,21 +110,11 @@ pub fn read(bytes: &[u8]) -> Option<Vec<Rule<'_>>> {
     }
     for _ in 0..count {
         let applies_to = read_applies_to(take_section(rest)?)?;
-        let section = take_section(rest)?;
-        let effective = whole(section, acl::dacl_at_front(section))?;
-        if !sacl_is_well_shaped(take_section(rest)?) {
-            return None;
-        }
-        let section = take_section(rest)?;
-        let staged = if section.is_empty() {
-            None
-        } else {
-            Some(whole(section, acl::dacl_at_front(section))?)
-        };
-        if !sacl_is_well_shaped(take_section(rest)?) {
-            return None;
-        }
-        rules.push(Rule { applies_to, effective, staged });
+        let effective = whole(take_section(rest)?, acl::dacl_at_front)?;
+        let effective_sacl = whole_or_none(take_section(rest)?, acl::sacl_at_front)?;
+        let staged = whole_or_none(take_section(rest)?, acl::dacl_at_front)?;
+        let staged_sacl = whole_or_none(take_section(rest)?, acl::sacl_at_front)?;
+        rules.push(Rule { applies_to, effective, effective_sacl, staged, staged_sacl });
     }
     if !rest.is_empty() {
         return None;

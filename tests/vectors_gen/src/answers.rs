@@ -6,6 +6,7 @@ mod conditions;
 mod confinement;
 mod crowds;
 mod decided;
+mod events;
 mod identities;
 mod masks;
 mod numbers;
@@ -40,5 +41,6 @@ pub fn cases() -> Vec<Case> {
     all.extend(decided::cases());
     all.extend(seats::cases());
     all.extend(masks::cases());
+    all.extend(events::cases());
     all
 }

@@ -24,8 +24,13 @@ impl Case {
                     let words = masks.map(|mask| format!(" 0x{mask:08x}"));
                     format!("masks ={}\n", words.concat())
                 });
+                let trail = if line.events.is_empty() {
+                    String::new()
+                } else {
+                    format!("trail = {}\n", hex::encode(&line.trail()))
+                };
                 let file = hex::encode(file);
-                format!("# {reason}\nask = {file}\nline = {}\n{masks}", line.text)
+                format!("# {reason}\nask = {file}\nline = {}\n{masks}{trail}", line.text)
             }
             Body::Convert { record, listing } => format!(
                 "# {reason}\nrecord = {}\nlisting = {}\n",
@@ -52,10 +57,11 @@ pub fn ask_file(reason: &str, file: Vec<u8>, line: Line) -> Case {
 }
 
 /// What is expected of a question: the line that the program prints and, if it is answered, the
-/// four masks.
+/// four masks and the events. An event has a source, an entry number and a mask.
 pub struct Line {
     pub text: String,
     pub masks: Option<[u32; 4]>,
+    pub events: Vec<[u32; 3]>,
 }
 
 impl Line {
@@ -63,7 +69,7 @@ impl Line {
     /// are the granted one.
     fn answer(granted: u32, allowed: &str, staged: &str) -> Line {
         let text = format!("granted 0x{granted:08x} allowed {allowed} staged {staged}");
-        Line { text, masks: Some([granted; 4]) }
+        Line { text, masks: Some([granted; 4]), events: vec![] }
     }
 
     /// The same where confinement or the policy takes something: what normal evaluation leaves of
@@ -72,6 +78,18 @@ impl Line {
         let masks = self.masks.as_mut().expect("a refusal has no masks");
         masks[..2].copy_from_slice(&[normal, confined]);
         self
+    }
+
+    /// The same where audit entries raise these events.
+    pub fn raising(mut self, events: &[[u32; 3]]) -> Line {
+        assert!(self.masks.is_some(), "a refusal has no events");
+        self.events = events.to_vec();
+        self
+    }
+
+    /// The bytes of the events, one number after the other in sevens.
+    pub fn trail(&self) -> Vec<u8> {
+        self.events.as_flattened().iter().flat_map(|&n| make::sevens(u64::from(n))).collect()
     }
 }
 
@@ -92,7 +110,7 @@ pub fn no_staged(granted: u32) -> Line {
 }
 
 pub fn refused(number: u32) -> Line {
-    Line { text: format!("refused {number}"), masks: None }
+    Line { text: format!("refused {number}"), masks: None, events: vec![] }
 }
 
 /// S-1-5-0-7, S-1-5-7 and S-1-5-32-544.
@@ -220,6 +238,15 @@ pub fn long_allow(mask: u32, sid: &[u8], spare: &[u8]) -> Vec<u8> {
 
 pub fn long_deny(mask: u32, sid: &[u8], spare: &[u8]) -> Vec<u8> {
     make::long_entry(1, 0, mask, sid, spare)
+}
+
+/// The flags of an audit entry.
+pub const SUCCESS: u8 = 0x40;
+pub const FAILURE: u8 = 0x80;
+pub const BOTH: u8 = SUCCESS | FAILURE;
+
+pub fn audit(flags: u8, mask: u32, sid: &[u8]) -> Vec<u8> {
+    make::entry(2, flags, mask, sid)
 }
 
 /// An entry whose SID says that it has so many words, whatever the entry holds.

@@ -1,6 +1,8 @@
 //! Descriptors at each limit of their shape. The question is c1's, so that a well-shaped
 //! descriptor shows by what it grants.
 
+mod audits;
+
 use crate::case::*;
 use pirasteh_cases::make::{
     acl, allow, bare_entry, deny, entry, long_entry, sid, Descriptor, Token,
@@ -36,6 +38,7 @@ pub fn cases() -> Vec<Case> {
     all.extend(long_entries());
     all.extend(short_entries());
     all.extend(sacls());
+    all.extend(audits::cases());
     all.extend(overlaps());
     all
 }
@@ -341,7 +344,7 @@ fn sacls() -> Vec<Case> {
     let with = |list: &[u8]| {
         Descriptor::owned_by(&w()).sacl(list).dacl(&acl(&[allow(READ, &u())])).bytes()
     };
-    let some = acl(&[bare_entry(2, 0, &[0; 8])]);
+    let some = acl(&[bare_entry(3, 0, &[0; 8])]);
     // With these the SACL stands at 32.
     let mut all = vec![
         good("a SACL", with(&some)),
@@ -356,7 +359,7 @@ fn sacls() -> Vec<Case> {
             "bodies are not judged: an allow entry that is a header alone",
             with(&acl(&[bare_entry(0, 0, &[])])),
         ),
-        good("bodies are not judged: a SID of revision 9", with(&acl(&[entry(2, 0, 1, &[9; 12])]))),
+        good("bodies are not judged: a SID of revision 9", with(&acl(&[entry(3, 0, 1, &[9; 12])]))),
         good(
             "bodies are not judged: allow and deny entries too short for any SID",
             with(&acl(&[bare_entry(0, 0, &[0; 8]), bare_entry(1, 0, &[0; 4])])),

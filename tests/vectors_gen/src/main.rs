@@ -90,12 +90,7 @@ mod tests {
         for (name, _, cases) in files() {
             for case in &cases {
                 let said = match &case.body {
-                    Body::Ask { file, line } => {
-                        let said = reference::question(file);
-                        let (text, masks) = (reference::line(&said), reference::masks(&said));
-                        let fine = text == line.text && masks == line.masks.unwrap_or([0; 4]);
-                        (!fine).then(|| format!("{text}, masks {masks:#x?}, not {:x?}", line.masks))
-                    }
+                    Body::Ask { file, line } => asked(file, line),
                     Body::Convert { record, listing } => {
                         let there = reference::list(record);
                         let back = reference::pack(listing);
@@ -117,6 +112,23 @@ mod tests {
             }
         }
         assert!(wrong.is_empty(), "\n{}", wrong.join("\n"));
+    }
+
+    /// What the reference says of a question, if that is not what is expected.
+    fn asked(file: &[u8], line: &case::Line) -> Option<String> {
+        let said = reference::question_and_events(file);
+        let (answer, events) = match said {
+            Ok((answer, events)) => (Ok(answer), events),
+            Err(number) => (Err(number), vec![]),
+        };
+        let (text, masks) = (reference::line(&answer), reference::masks(&answer));
+        let fine = text == line.text
+            && masks == line.masks.unwrap_or([0; 4])
+            && reference::trail(&events) == line.trail();
+        (!fine).then(|| {
+            let expected = (&line.masks, &line.events);
+            format!("{text}, masks {masks:x?}, events {events:x?}, not {expected:x?}")
+        })
     }
 
     #[test]

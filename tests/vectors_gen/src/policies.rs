@@ -1,6 +1,8 @@
 //! Policies at each limit of their shape, and what rules do. The question is c1's unless said.
 
+mod audits;
 mod conditions;
+mod events;
 
 use crate::case::*;
 use pirasteh_cases::hex;
@@ -28,6 +30,8 @@ pub fn cases() -> Vec<Case> {
     all.extend(long_entries());
     all.extend(owners());
     all.extend(conditions::cases());
+    all.extend(audits::cases());
+    all.extend(events::cases());
     all
 }
 
@@ -178,17 +182,6 @@ fn rules() -> Vec<Case> {
                 ],
             ),
             no(3).after(7, 7),
-        ),
-        ask(
-            "staged SACLs raise no flag",
-            asks(
-                7,
-                &[Rule {
-                    staged_sacl: l(&[make::entry(2, 0xC0, 7, &u())]),
-                    ..Rule::of(&l(&[allow(7, &u())]))
-                }],
-            ),
-            yes(7),
         ),
         ask(
             "a rule on a null DACL",

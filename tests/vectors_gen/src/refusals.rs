@@ -1,5 +1,7 @@
-//! Each refusal but 11, from both sides, and which of two is given.
+//! Each refusal but 11, from both sides, and which of two is given. (A question is refused with 11
+//! if its trail is longer than the buffer, so every case with events shows that too.)
 
+mod audits;
 mod conditions;
 mod numbers;
 
@@ -17,6 +19,7 @@ pub fn cases() -> Vec<Case> {
     all.extend(file());
     all.extend(numbers::cases());
     all.extend(conditions::cases());
+    all.extend(audits::cases());
     all
 }
 
@@ -321,11 +324,11 @@ fn descriptor() -> Vec<Case> {
             "any type may stand in a SACL",
             c1().descriptor(
                 Descriptor::owned_by(&w())
-                    .sacl(&acl(&[odd.clone(), make::entry(2, 0x40, 1, &u())]))
+                    .sacl(&acl(&[odd.clone(), audit(SUCCESS, 1, &u())]))
                     .dacl(&acl(&[allow(0x8000_0000, &u())]))
                     .bytes(),
             ),
-            yes(0x0012_0089),
+            yes(0x0012_0089).raising(&[[0, 1, 1]]),
         ),
         ask("8 before 9", c1().descriptor(owned(acl(&[odd]))).policy(bad_policy()), refused(8)),
     ]

@@ -72,6 +72,8 @@ pub struct Walked {
 pub struct Setting<'a> {
     pub rights: &'a [u32; 4],
     pub asked: u32,
+    /// The explicit bits that an entry may cover.
+    pub audited: u32,
     pub normal: Party<'a>,
     pub confined: Option<Party<'a>>,
     pub owner_rights: u32,
@@ -79,7 +81,7 @@ pub struct Setting<'a> {
 }
 
 #[inline]
-fn acl_header(bytes: &[u8]) -> Option<(usize, usize)> {
+pub fn acl_header(bytes: &[u8]) -> Option<(usize, usize)> {
     if bytes.len() < 8 || (bytes[0] != 2 && bytes[0] != 4) {
         return None;
     }
@@ -89,23 +91,12 @@ fn acl_header(bytes: &[u8]) -> Option<(usize, usize)> {
 
 /// The size of the entry at `at`, if its header is well shaped and it is inside the list.
 #[inline]
-fn entry_size(list: &[u8], at: usize) -> Option<usize> {
+pub fn entry_size(list: &[u8], at: usize) -> Option<usize> {
     if list.len() - at < 4 {
         return None;
     }
     let size = u16_at(list, at + 2);
     (size >= 4 && size % 4 == 0 && size <= list.len() - at).then_some(size)
-}
-
-/// Judges a SACL's shape, and gives its size.
-pub fn sacl(bytes: &[u8]) -> Option<usize> {
-    let (size, count) = acl_header(bytes)?;
-    let list = &bytes[..size];
-    let mut at = 8;
-    for _ in 0..count {
-        at += entry_size(list, at)?;
-    }
-    Some(size)
 }
 
 /// Judges a DACL's shape and takes what its entries say of the bits asked. Gives its size too.

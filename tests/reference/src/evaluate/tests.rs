@@ -1,4 +1,6 @@
-//! The four masks, by small questions: U asks, W owns, unless said.
+//! The four masks and the events, by small questions: U asks, W owns, unless said.
+
+mod events;
 
 use super::*;
 use crate::acl::dacl_at_front;
@@ -58,7 +60,8 @@ fn ask(
     let rights = masks::rights_of(kind).expect("a kind");
     let dacl = dacl.map(|list| dacl_at_front(list).expect("a list"));
     let rules = policy::read(rules).expect("a policy");
-    answer(&Setting { rights, token, owner, self_id: &[] }, mask, dacl.as_ref(), &rules)
+    let lists = Lists { dacl: dacl.as_ref(), sacl: None };
+    answer(&Setting { rights, token, owner, self_id: &[] }, mask, &lists, &rules).0
 }
 
 /// The asked bits and the four masks.

@@ -16,9 +16,8 @@ use Rattle.base.proofs.BytesLaws.{part-front}
 use Rattle.tokens.proofs.ConvertLaws.{Listed, listed-in}
 use Rattle.policy.specs.Policy as policy
 use Rattle.access.specs.Status.{selfFits, descriptorNumber, policyNumber}
-use Rattle.access.specs.Findings.{accepted}
 use Rattle.access.proofs.FindingsLaws.{findings-self, findings-descriptor, findings-policy, findings-found}
-use Rattle.access.proofs.TokenSteps.{Held, held, token-refused, found-whole, held-limits}
+use Rattle.access.proofs.TokenSteps.{Held, held, token-refused, stopped-room, found-whole, findings-made, held-limits}
 use Rattle.access.proofs.finding.findings_in.Statement.{statement}
 use Rattle.access.proofs.finding.findings_in.Tie as tie
 
@@ -92,11 +91,13 @@ same-length c = search needs
 returns : tie.Need-returns
 returns c =
     let k = c .before .before .before .before .before in
-    let a = k .before .before .before .before .before .before .before .args in
-    c .stopped .ensures
-    ∙ sym
-    (token-refused (a .kind) (a .token .now) (a .me .now) (a .descriptor .now) (a .policy .now) (k .list-in .result) _ (listed k)
-    (c .before .if1 .taken))
+    let a = k .before .before .before .before .before .before .before .args in (
+      c .stopped .ensures
+          ∙ sym
+          (token-refused (a .kind) (a .token .now) (a .me .now) (a .descriptor .now) (a .policy .now) (k .list-in .result) _ (listed k)
+          (c .before .if1 .taken)),
+      stopped-room (k .list-in .result .status) (c .stopped .result) _ (a .token .now) (c .stopped .ensures) (c .before .if1 .taken),
+    )
 
 self-fits-requires : tie.Need-self-fits-requires
 self-fits-requires c κs = search needs
@@ -112,10 +113,12 @@ returns-2 c =
     let m = c .before .before .self-fits in
     let one = c .before .before .before in
     let a = start-1 one .args in
-    let t = token-at one in
-    c .stopped2 .ensures
-    ∙ sym (findings-self (a .kind) (a .token .now) (a .me .now) (a .descriptor .now) (a .policy .now)
-    (t .token) (t .end) (t .read) (t .kept) (sym (m .ensures) ∙ not-true (m .result) (c .before .if2 .taken)))
+    let t = token-at one in (
+      c .stopped2 .ensures
+          ∙ sym (findings-self (a .kind) (a .token .now) (a .me .now) (a .descriptor .now) (a .policy .now)
+          (t .token) (t .end) (t .read) (t .kept) (sym (m .ensures) ∙ not-true (m .result) (c .before .if2 .taken))),
+      stopped-room 5 (c .stopped2 .result) _ (a .token .now) (c .stopped2 .ensures) (λ z. omega arith),
+    )
 
 read-requires : tie.Need-read-requires
 read-requires c κs = search needs
@@ -134,10 +137,12 @@ returns-3 c =
     let n = number-at (c .before .before) in
     let two = c .before .before .before .before in
     let a = start-2 two .args in
-    let t = token-at (up-2 two) in
-    c .stopped3 .ensures
-    ∙ rw n (sym (findings-descriptor (a .kind) (a .token .now) (a .me .now) (a .descriptor .now) (a .policy .now)
-    (t .token) (t .end) (t .read) (t .kept) (self-at two) (λ z. c .before .if3 .taken (n ∙ z))))
+    let t = token-at (up-2 two) in (
+      c .stopped3 .ensures
+          ∙ rw n (sym (findings-descriptor (a .kind) (a .token .now) (a .me .now) (a .descriptor .now) (a .policy .now)
+          (t .token) (t .end) (t .read) (t .kept) (self-at two) (λ z. c .before .if3 .taken (n ∙ z)))),
+      stopped-room _ (c .stopped3 .result) _ (a .token .now) (c .stopped3 .ensures) (c .before .if3 .taken),
+    )
 
 judge-policy-requires : tie.Need-judge-policy-requires
 judge-policy-requires c κs = search needs
@@ -149,7 +154,7 @@ stopped-requires-4 : tie.Need-stopped-requires-4
 stopped-requires-4 c κs = search needs
 
 same-length-4 : tie.Need-same-length-4
-same-length-4 c = search needs
+same-length-4 c = long-at (up-2 (up-3 (c .before .before .before .before)))
 
 returns-4 : tie.Need-returns-4
 returns-4 c =
@@ -157,11 +162,13 @@ returns-4 c =
     let three = c .before .before .before .before in
     let two = up-3 three in
     let a = start-2 two .args in
-    let t = token-at (up-2 two) in
-    c .stopped4 .ensures
-    ∙ rw n
-    (sym (findings-policy (a .kind) (a .token .now) (a .me .now) (a .descriptor .now) (a .policy .now)
-    (t .token) (t .end) (t .read) (t .kept) (self-at two) (whole-at three) (λ z. c .before .if4 .taken (n ∙ z))))
+    let t = token-at (up-2 two) in (
+      c .stopped4 .ensures
+          ∙ rw n
+          (sym (findings-policy (a .kind) (a .token .now) (a .me .now) (a .descriptor .now) (a .policy .now)
+          (t .token) (t .end) (t .read) (t .kept) (self-at two) (whole-at three) (λ z. c .before .if4 .taken (n ∙ z)))),
+      stopped-room _ (c .stopped4 .result) _ (a .token .now) (c .stopped4 .ensures) (c .before .if4 .taken),
+    )
 
 part-requires : tie.Need-part-requires
 part-requires c κs = search needs
@@ -188,11 +195,12 @@ found-in-requires c κs =
     (omega (arith, h .0), (omega arith, (omega (arith, h .1 .0), omega (arith, h .1 .1))))
 
 same-length-5 : tie.Need-same-length-5
-same-length-5 c = long-at (up-2 (up-3 (up-4 (c .before .before .before .before .before .before))))
+same-length-5 c = long-at (up-2 (up-3 (up-4 (c .before .before .before .before .before .before .before .before))))
 
 returns-5 : tie.Need-returns-5
 returns-5 c =
-    let handed = c .before .before .before .before in
+    let done = c .before .before in
+    let handed = done .before .before .before .before in
     let four = handed .before .before in
     let three = up-4 four in
     let two = up-3 three in
@@ -208,11 +216,16 @@ returns-5 c =
     let list = part-handed d _ (p .result) (λ (x : Parts). x .dacl) (handed .part2 .ensures) (p .ensures .1 .dacl) (p .ensures .0) in
     let present = ap (λ (x : Parts). not (x .null)) (p .ensures .0) in
     let found =
-    found-whole (a .kind) (a .token .now) (r .result) _ t (bytes-at one) _ _ _ (a .me .now) d (a .policy .now) _ (c .found-in .result)
-    (part-front (r .last .1 .0) (r .result .length)) owner list present (whole-at three) sound (c .found-in .ensures)
+    found-whole (a .kind) (a .token .now) (r .result) _ t (bytes-at one) _ _ _ (a .me .now) d (a .policy .now) _ (done .found-in .result)
+    (part-front (r .last .1 .0) (r .result .length)) owner list present (whole-at three) sound (done .found-in .ensures)
     in
-    ap accepted found ∙ sym (findings-found (a .kind) (a .token .now) (a .me .now) (a .descriptor .now) (a .policy .now)
-    (t .token) (t .end) (t .read) (t .kept) (self-at two) (whole-at three) sound)
+    let o = listed (listing-at one) in
+    let long = o .long ∙ sym (ap length (o .bytes)) ∙ ap length (t .bytes) in (
+      findings-made _ (t .token) d (p .result) found long (p .ensures .0)
+          ∙ sym (findings-found (a .kind) (a .token .now) (a .me .now) (a .descriptor .now) (a .policy .now)
+          (t .token) (t .end) (t .read) (t .kept) (self-at two) (whole-at three) sound),
+      ((λ z. o .bytes), omega (arith, long-at one, listing-at one .list-in .ensures .1 .1 .0)),
+    )
 
 pub findings-in-spec : {M : Type 1} → statement M
 findings-in-spec =

@@ -44,27 +44,27 @@ add-from c =
     let b = literal-bounds (a .c .now) (i .at) (λ q. c .if1 .left (e .ensures .0 ∙ q)) in
     omega (arith, b .0, b .1)
 
-sub-is-member : tie.Need-sub-is-member Inv-loop μ-loop
-sub-is-member c =
+sub-matches : tie.Need-sub-matches Inv-loop μ-loop
+sub-matches c =
     let i = c .before .before .before .loop in
     let a = c .before .before .before .before .before .before .before .args in
     let e = c .before .literal-end in
     let b = literal-bounds (a .c .now) (i .at) (λ q. c .if1 .left (e .ensures .0 ∙ q)) in
     omega (arith, b .0, b .1)
 
-part-is-member-start : tie.Need-part-is-member-start Inv-loop μ-loop
-part-is-member-start c =
+part-matches-start : tie.Need-part-matches-start Inv-loop μ-loop
+part-matches-start c =
     let i = c .before .before .before .loop in
     let a = c .before .before .before .before .before .before .before .args in
     let e = c .before .literal-end in
     let b = literal-bounds (a .c .now) (i .at) (λ q. c .if1 .left (e .ensures .0 ∙ q)) in
     omega (arith, b .0, b .1)
 
-part-is-member-end : tie.Need-part-is-member-end Inv-loop μ-loop
-part-is-member-end c = search needs
+part-matches-end : tie.Need-part-matches-end Inv-loop μ-loop
+part-matches-end c = search needs
 
-is-member-requires : tie.Need-is-member-requires Inv-loop μ-loop
-is-member-requires c κs = search needs
+matches-requires : tie.Need-matches-requires Inv-loop μ-loop
+matches-requires c κs = search needs
 
 returns-2 : tie.Need-returns-2 Inv-loop μ-loop
 returns-2 c =
@@ -73,7 +73,7 @@ returns-2 c =
     let f = matches true (shown (a .heads .now) (a .seats .now) (a .listing .now)) (a .hits) in
     let e = c .before .before .before .before .before .literal-end in
     let t = not-true (a .every) (c .if3 .taken) in
-    let h = sym (c .before .before .is-member .ensures) ∙ c .before .if2 .taken in
+    let h = sym (c .before .before .matches .ensures) ∙ c .before .if2 .taken in
     sym (meeting-decided f (a .every) (a .c .now) (i .at) (e .result) (omega arith) (e .ensures .0)
     (c .before .before .before .before .if1 .left) (i .inv) (h ∙ sym (ap not t)) ∙ ap not t)
 
@@ -84,7 +84,7 @@ returns-3 c =
     let f = matches true (shown (a .heads .now) (a .seats .now) (a .listing .now)) (a .hits) in
     let e = c .before .before .before .before .before .literal-end in
     let t = c .if4 .taken in
-    let h = sym (c .before .before .is-member .ensures) ∙ c .before .if2 .left in
+    let h = sym (c .before .before .matches .ensures) ∙ c .before .if2 .left in
     sym (meeting-decided f (a .every) (a .c .now) (i .at) (e .result) (omega arith) (e .ensures .0)
     (c .before .before .before .before .if1 .left) (i .inv) (h ∙ sym (ap not t)) ∙ ap not t)
 
@@ -103,7 +103,7 @@ loop-again c =
     let f = matches true (shown (a .heads .now) (a .seats .now) (a .listing .now)) (a .hits) in
     let e = c .before .before .before .before .before .literal-end in
     let t = not-false (a .every) (c .if3 .left) in
-    let h = sym (c .before .before .is-member .ensures) ∙ c .before .if2 .taken in
+    let h = sym (c .before .before .matches .ensures) ∙ c .before .if2 .taken in
     meeting-more f (a .every) (a .c .now) (i .at) (e .result) (omega arith) (e .ensures .0)
     (c .before .before .before .before .if1 .left) (i .inv) (h ∙ sym t)
 
@@ -122,7 +122,7 @@ loop-again-2 c =
     let f = matches true (shown (a .heads .now) (a .seats .now) (a .listing .now)) (a .hits) in
     let e = c .before .before .before .before .before .literal-end in
     let t = c .if4 .left in
-    let h = sym (c .before .before .is-member .ensures) ∙ c .before .if2 .left in
+    let h = sym (c .before .before .matches .ensures) ∙ c .before .if2 .left in
     meeting-more f (a .every) (a .c .now) (i .at) (e .result) (omega arith) (e .ensures .0)
     (c .before .before .before .before .if1 .left) (i .inv) (h ∙ sym t)
 
@@ -143,10 +143,10 @@ meets-spec =
     literal-end-requires
     returns
     add-from
-    sub-is-member
-    part-is-member-start
-    part-is-member-end
-    is-member-requires
+    sub-matches
+    part-matches-start
+    part-matches-end
+    matches-requires
     returns-2
     returns-3
     loop-less

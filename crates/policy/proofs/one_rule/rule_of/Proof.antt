@@ -169,7 +169,7 @@ returns-6 c =
           (t .before .maybe-in2 .result)
           (d .before .before .before .before .applies-in .ensures) (d .before .list-in .ensures)
           (t .before .maybe-in2 .ensures) (c .is-unread .ensures),
-      (p .1 .1 .1 .1 .1, (p .0, (p .1 .0, p .1 .1 .1 .0))),
+      (p .1 .1 .1 .1 .1, p),
     )
 
 pub rule-of-spec : {M : Type 1} → statement M

@@ -31,7 +31,13 @@ returns c =
           (c .section-at5 .result)
           (one .section-at .ensures .0) (two .section-at2 .ensures .0) (three .section-at3 .ensures .0) (four .section-at4 .ensures .0)
           (c .section-at5 .ensures .0),
-      (c .section-at5 .ensures .1 .1, (one .section-at .ensures .1, (two .section-at2 .ensures .1, four .section-at4 .ensures .1))),
+      (
+        c .section-at5 .ensures .1 .1,
+        (
+          one .section-at .ensures .1,
+          (two .section-at2 .ensures .1, (three .section-at3 .ensures .1, (four .section-at4 .ensures .1, c .section-at5 .ensures .1))),
+        ),
+      ),
     )
 
 pub rule-by-lengths-spec : {M : Type 1} → statement M

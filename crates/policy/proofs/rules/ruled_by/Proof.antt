@@ -5,8 +5,7 @@ use mathlib.Core.Path.{_≡_, sym, ap, _∙_}
 use native.Mathlib.Omega.{arith}
 use borrow.Author.Needs.{needs}
 use Rattle.passes.specs.Chains.{shown}
-use Rattle.passes.specs.Confinement.{everything}
-use Rattle.policy.specs.Rules.{ruled, ruledBy}
+use Rattle.policy.specs.Rules.{unruled, ruledBy}
 use Rattle.policy.specs.ByLengths.{rulesByLengths}
 use Rattle.policy.proofs.RulesSteps.{Left, left-end, left-stop, left-more}
 use Rattle.policy.proofs.rules.ruled_by.Statement.{statement}
@@ -29,8 +28,8 @@ loop-holds c =
     let a = c .before .before .before .before .args in (
       omega arith,
       ap
-          (λ (m : ℕ). Left (a .kind) (shown (a .heads .now) (a .seats .now) (a .listing .now)) (a .hits) (a .privileges) (a .s .now) (ruled
-          everything 0) m 5)
+          (λ (m : ℕ). Left (a .kind) (shown (a .heads .now) (a .seats .now) (a .listing .now)) (a .hits) (a .privileges) (a .s .now) unruled
+          m 5)
           (omega (arith, c .u32-at .ensures)),
     )
 
