@@ -46,8 +46,8 @@
 
 /* The version of this header and its library, as text and as a number that can be compared:
  * major * 10000 + minor * 100 + patch. */
-#define PIRASTEH_VERSION        "0.7.0"
-#define PIRASTEH_VERSION_NUMBER 700
+#define PIRASTEH_VERSION        "0.7.1"
+#define PIRASTEH_VERSION_NUMBER 701
 
 /* PIRASTEH_CALL: the compiler warns about NULL, and about a result that is not looked at. */
 #if defined(__has_attribute)

@@ -54,11 +54,16 @@ fn answer_in(
     }
     let found = f.found;
     let answer = read_off(kind, mask, found);
-    let sacl = lists::part(descriptor, f.sacl);
-    if !is_asked(lent, 0 < sacl.len(), found.has_sacl, found.has_staged_sacl) {
+    if !is_asked(
+        lent,
+        f.sacl.from < f.sacl.to,
+        found.has_sacl,
+        found.has_staged_sacl,
+    ) {
         return Traced { answer, length: 0 };
     }
     let owner = lists::part(descriptor, f.owner);
+    let sacl = lists::part(descriptor, f.sacl);
     let n = f.length;
     audited(
         kind,

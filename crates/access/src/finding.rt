@@ -4,6 +4,7 @@ ghost use mathlib.Core.Path.{_≡_};
 ghost use mathlib.Core.Bool.{true};
 ghost use Prim.Native.Nat.{_≤_};
 ghost use lib.ListN.{length, take};
+ghost use Rattle.base.specs.Bytes.{part};
 ghost use Rattle.lists.specs.Descriptor as descriptor;
 ghost use Rattle.policy.specs.Policy as policy;
 ghost use Rattle.records.specs.Converters.{asListing};
@@ -13,6 +14,7 @@ ghost use Rattle.access.specs.Findings.{findingsOf};
 use crate::answer::Findings;
 use crate::answer::stopped;
 use crate::evaluate::found_in;
+use lists::Extent;
 use lists::Verdict;
 use policy::Standing;
 
@@ -49,6 +51,16 @@ fn standing_number(v: Standing) -> u32
     }
 }
 
+// The bytes of an extent that lies inside.
+fn cut(d: &[u8], x: Extent) -> &[u8]
+    requires { ⌜ descriptor.LiesIn (length (now d)) x ⌝ }
+    ensures { λ r. ⌜ now r ≡ part (now (d .entry)) (x .from) (x .to) ⌝ }
+{
+    let from = x.from;
+    let to = x.to;
+    &d[from..to]
+}
+
 // What is found, or the number of a refusal. The token's listing is made in `room`, which is long
 // enough for it, and left at its front.
 pub(crate) fn findings_in(
@@ -82,8 +94,8 @@ pub(crate) fn findings_in(
     if standing != 0 {
         return stopped(standing);
     }
-    let owner = lists::part(descriptor, parts.owner);
-    let list = lists::part(descriptor, parts.dacl);
+    let owner = cut(descriptor, parts.owner);
+    let list = cut(descriptor, parts.dacl);
     let n = listed.length;
     let place = listed.confined_at;
     let found = found_in(

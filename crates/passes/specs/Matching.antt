@@ -26,6 +26,9 @@ hitBy allow deny = record { allow = allow; deny = deny }
 abbrev pub hitsBy : Hit → Hit → Hits
 hitsBy owner self = record { owner = owner; me = self }
 
+abbrev pub nobody : Hit
+nobody = hitBy false false
+
 -- how an identity stands in for a virtual one, for allow and for deny
 abbrev pub hitOf : List Member → List ℕ → Hit
 hitOf ms w = hitBy (stands true ms w) (stands false ms w)

@@ -1,6 +1,8 @@
 // Which identities match: those whom the tables of chains show, and the two virtual ones.
 ghost use mathlib.Core.Path.{_≡_};
-ghost use Rattle.passes.specs.Chains.{shown};
+ghost use Prim.Native.Nat.{_-_, _≤_};
+ghost use lib.ListN.{length};
+ghost use Rattle.passes.specs.Chains.{chain, shown};
 ghost use Rattle.passes.specs.Matching.{among, side, matches};
 ghost use Rattle.passes.specs.OneWalk.{virtualMatches};
 use crate::key::last;
@@ -21,21 +23,21 @@ pub struct Hits {
     pub me: Hit,
 }
 
-// Whether a SID matches one of those whom the tables show: seat by seat, along its chain, and down
-// the row from where the chain goes on nearby.
-pub(crate) fn among(
+// Whether a SID matches one of those from a seat on: seat by seat, along its chain, and down the row
+// from where the chain goes on nearby.
+pub(crate) fn search_chain(
     listing: &[u8],
-    heads: &[u16; 512],
     seats: &[u64],
+    first: usize,
     w: &[u8],
     allow: bool,
 ) -> bool
+    requires { ⌜ first ≤ length (now seats) - 1 ⌝ }
     ensures { λ r. ⌜ r ≡ among allow
-        (shown (now (heads .entry)) (now (seats .entry)) (now (listing .entry)))
-        (now (w .entry)) ⌝ }
+        (chain (now (seats .entry)) (now (listing .entry)) first first) (now (w .entry)) ⌝ }
 {
     let word = last(w);
-    let mut n = head(heads, seats, w);
+    let mut n = first;
     let mut down = false;
     loop {
         if n == 0 {
@@ -55,6 +57,16 @@ pub(crate) fn among(
             n = after;
         }
     }
+}
+
+// Whether a SID matches one of those whom the tables show.
+fn among(listing: &[u8], heads: &[u16; 512], seats: &[u64], w: &[u8], allow: bool) -> bool
+    ensures { λ r. ⌜ r ≡ among allow
+        (shown (now (heads .entry)) (now (seats .entry)) (now (listing .entry)))
+        (now (w .entry)) ⌝ }
+{
+    let n = head(heads, seats, w);
+    search_chain(listing, seats, n, w, allow)
 }
 
 // The side of a hit that is asked for.

@@ -1,34 +1,41 @@
 // How the owner and the self identity stand in for the two virtual identities.
 ghost use mathlib.Core.Path.{_≡_};
 ghost use Rattle.passes.specs.Chains.{shown};
-ghost use Rattle.passes.specs.Matching.{stands, hitOf, hitsOf};
+ghost use Rattle.passes.specs.Matching.{nobody, hitOf, hitsOf};
 use crate::matching::Hit;
 use crate::matching::Hits;
-use crate::matching::among;
+use crate::matching::search_chain;
+use crate::search::head;
 
-// Whether an identity stands in for a virtual one. An empty one does not, nor a virtual one.
-fn stands(listing: &[u8], heads: &[u16; 512], seats: &[u64], w: &[u8], allow: bool) -> bool
-    ensures { λ r. ⌜ r ≡ stands allow
-        (shown (now (heads .entry)) (now (seats .entry)) (now (listing .entry)))
-        (now (w .entry)) ⌝ }
+// Nobody stands in.
+fn nobody() -> Hit
+    ensures { λ r. ⌜ r ≡ nobody ⌝ }
 {
-    if w.len() == 0 {
-        return false;
+    Hit {
+        allow: false,
+        deny: false,
     }
-    if sids::is_virtual(w) {
-        return false;
-    }
-    among(listing, heads, seats, w, allow)
 }
 
-// How an identity stands in for a virtual one.
+// How an identity stands in for a virtual one. An empty one does not, nor a virtual one, nor one
+// whose chain is empty; these are told apart once, for allow and deny both.
 fn hit(listing: &[u8], heads: &[u16; 512], seats: &[u64], w: &[u8]) -> Hit
     ensures { λ r. ⌜ r ≡ hitOf
         (shown (now (heads .entry)) (now (seats .entry)) (now (listing .entry)))
         (now (w .entry)) ⌝ }
 {
-    let allow = stands(listing, heads, seats, w, true);
-    let deny = stands(listing, heads, seats, w, false);
+    if w.len() == 0 {
+        return nobody();
+    }
+    if sids::is_virtual(w) {
+        return nobody();
+    }
+    let n = head(heads, seats, w);
+    if n == 0 {
+        return nobody();
+    }
+    let allow = search_chain(listing, seats, n, w, true);
+    let deny = search_chain(listing, seats, n, w, false);
     Hit { allow, deny }
 }
 

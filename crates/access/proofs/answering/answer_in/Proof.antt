@@ -61,9 +61,6 @@ returns c =
 read-off-requires : tie.Need-read-off-requires
 read-off-requires c κs = search needs
 
-part-requires : tie.Need-part-requires
-part-requires c κs = search needs
-
 is-asked-requires : tie.Need-is-asked-requires
 is-asked-requires c κs = search needs
 
@@ -73,17 +70,18 @@ same-length-2 c = search needs
 returns-2 : tie.Need-returns-2
 returns-2 c =
     let asked = c .before in
-    let handed = asked .before in
-    let off = handed .before in
+    let off = asked .before .before in
     let one = off .before .before in
     let f = found-at one in
     let q = asked-of (start f) in
     let a = start f .args in
     let g = f .findings-in in
     lent-unasked q (g .result) (g .ensures .0) (one .if1 .left) (a .lent) (length (a .out .now)) (a .out .now) _ _
-    (off .read-off .result) (off .read-off .ensures) _
-    (sacl-held q (g .result) (g .ensures .0) (one .if1 .left) _ (handed .part .ensures))
+    (off .read-off .result) (off .read-off .ensures)
     (sym (asked .is-asked .ensures) ∙ not-true _ (c .if2 .taken)) refl refl refl
+
+part-requires : tie.Need-part-requires
+part-requires c κs = search needs
 
 part-requires-2 : tie.Need-part-requires-2
 part-requires-2 c κs = search needs
@@ -95,12 +93,14 @@ part-audited-start : tie.Need-part-audited-start
 part-audited-start c = search needs
 
 part-audited-end : tie.Need-part-audited-end
-part-audited-end c = search needs
+part-audited-end c =
+    let one = c .before .before .before .before .before .before .before .before in
+    omega (arith, found-at one .findings-in .ensures .1 .1)
 
 audited-requires : tie.Need-audited-requires
 audited-requires c κs =
     let room = c .before .before in
-    let one = room .before .before .before .before .before .before .before in
+    let one = room .before .before .before .before .before .before .before .before in
     let f = found-at one in
     let q = asked-of (start f) in
     let g = f .findings-in in
@@ -109,7 +109,7 @@ audited-requires c κs =
 
 same-length-3 : tie.Need-same-length-3
 same-length-3 c = c .before .before .before .before .before .before .before .before .before .before .before .before .before .before .before
-    .room .given
+    .before .room .given
 
 same-length-4 : tie.Need-same-length-4
 same-length-4 c = search needs
@@ -118,21 +118,21 @@ returns-3 : tie.Need-returns-3
 returns-3 c =
     let done = c .before .before in
     let room = done .before .before .before in
-    let owned = room .before in
+    let handed = room .before in
+    let owned = handed .before in
     let asked = owned .before .before in
-    let handed = asked .before in
-    let off = handed .before in
+    let off = asked .before .before in
     let one = off .before .before in
     let f = found-at one in
     let q = asked-of (start f) in
     let a = start f .args in
     let g = f .findings-in in
     lent-audited q (g .result) (g .ensures .0) (one .if1 .left) (a .lent) (length (a .out .now)) (a .out .now) _ _
-    (off .read-off .result) (off .read-off .ensures) _
-    (sacl-held q (g .result) (g .ensures .0) (one .if1 .left) _ (handed .part .ensures))
-    (bytes-at f) _ _
+    (off .read-off .result) (off .read-off .ensures)
+    (bytes-at f) _ _ _
     (listing-held q (g .result) (g .ensures .0) (one .if1 .left) _ _ (g .ensures .1 .0) (part-front _ (g .result .length)))
-    (owner-held q (g .result) (g .ensures .0) (one .if1 .left) _ (owned .part2 .ensures)) (done .audited .ensures)
+    (owner-held q (g .result) (g .ensures .0) (one .if1 .left) _ (owned .part .ensures))
+    (sacl-held q (g .result) (g .ensures .0) (one .if1 .left) _ (handed .part2 .ensures)) (done .audited .ensures)
 
 pub answer-in-spec : {M : Type 1} → statement M
 answer-in-spec =
@@ -143,10 +143,10 @@ answer-in-spec =
     same-length
     returns
     read-off-requires
-    part-requires
     is-asked-requires
     same-length-2
     returns-2
+    part-requires
     part-requires-2
     sub-audited
     part-audited-start

@@ -8,10 +8,10 @@ use lib.ListN.{length}
 use lib.Pow.{areBytes}
 use borrow.Author.Needs.{needs}
 use borrow.Author.Tests.{not-true, not-false}
+use Rattle.base.specs.Bytes.{part}
 use Rattle.base.proofs.BytesLaws.{bytes-of-lt}
 use Rattle.lists.specs.Descriptor as descriptor
 use Rattle.lists.specs.declared.descriptor.Parts.{Parts}
-use Rattle.lists.proofs.DescriptorSteps.{part-handed}
 use Rattle.base.proofs.BytesLaws.{part-front}
 use Rattle.tokens.proofs.ConvertLaws.{Listed, listed-in}
 use Rattle.policy.specs.Policy as policy
@@ -170,11 +170,11 @@ returns-4 c =
       stopped-room _ (c .stopped4 .result) _ (a .token .now) (c .stopped4 .ensures) (c .before .if4 .taken),
     )
 
-part-requires : tie.Need-part-requires
-part-requires c κs = search needs
+cut-requires : tie.Need-cut-requires
+cut-requires c κs = c .before .before .before .before .before .read .ensures .1 .owner
 
-part-requires-2 : tie.Need-part-requires-2
-part-requires-2 c κs = search needs
+cut-requires-2 : tie.Need-cut-requires-2
+cut-requires-2 c κs = c .before .before .before .before .before .before .read .ensures .1 .dacl
 
 sub-found-in : tie.Need-sub-found-in
 sub-found-in c = search needs
@@ -211,9 +211,8 @@ returns-5 c =
     let t = token-at one in
     let sound = sym (standing-at (four .before)) ∙ four .if4 .left in
     let d = a .descriptor .now in
-    let by-owner = handed .before .part .ensures in
-    let owner = part-handed d _ (p .result) (λ (x : Parts). x .owner) by-owner (p .ensures .1 .owner) (p .ensures .0) in
-    let list = part-handed d _ (p .result) (λ (x : Parts). x .dacl) (handed .part2 .ensures) (p .ensures .1 .dacl) (p .ensures .0) in
+    let owner = handed .before .cut .ensures ∙ ap (λ (x : Parts). part d (x .owner .from) (x .owner .to)) (p .ensures .0) in
+    let list = handed .cut2 .ensures ∙ ap (λ (x : Parts). part d (x .dacl .from) (x .dacl .to)) (p .ensures .0) in
     let present = ap (λ (x : Parts). not (x .null)) (p .ensures .0) in
     let found =
     found-whole (a .kind) (a .token .now) (r .result) _ t (bytes-at one) _ _ _ (a .me .now) d (a .policy .now) _ (done .found-in .result)
@@ -249,8 +248,8 @@ findings-in-spec =
     stopped-requires-4
     same-length-4
     returns-4
-    part-requires
-    part-requires-2
+    cut-requires
+    cut-requires-2
     sub-found-in
     part-found-in-start
     part-found-in-end
