@@ -24,11 +24,11 @@ use Rattle.records.proofs.RoundTrip.{record-form}
 use Rattle.records.proofs.LimitLaws.{listing-short}
 use Rattle.policy.specs.Policy.{standingOf}
 use Rattle.policy.specs.ByLengths.{rulesByLengths}
-use Rattle.access.specs.Granted.{answerOf}
+use Rattle.answers.specs.Granted.{answerOf}
 use Rattle.access.specs.Status.{Question, byLists}
 use Rattle.access.specs.Reported.{lending, inBuffer, reportPast, Lent}
 use Rattle.access.specs.Evaluating.{crowdIn, reportIn}
-use Rattle.access.specs.declared.answer.Answer.{Answer}
+use Rattle.answers.specs.declared.answer.Answer.{Answer}
 use Rattle.access.specs.declared.answer.Findings.{Findings}
 use Rattle.access.specs.declared.answer.Traced.{Traced}
 use Rattle.access.proofs.FindingsLaws.{findingsFor, Reports, past-taken}

@@ -21,11 +21,11 @@ use Rattle.audit.specs.Trail.{trailBytes}
 use Rattle.audit.specs.Noting.{Noted, fitting}
 use Rattle.audit.specs.declared.firing.Sought.{Sought}
 use Rattle.audit.proofs.AlikeLaws.{events-alike, stages-alike}
-use Rattle.access.specs.Granted.{soughtOf, flagged}
-use Rattle.access.specs.Status.{refused}
+use Rattle.answers.specs.Granted.{flagged, refused}
+use Rattle.access.specs.Evaluated.{soughtOf}
 use Rattle.access.specs.Reported.{inBuffer, Lent}
 use Rattle.access.specs.Evaluating.{crowdIn, reportIn}
-use Rattle.access.specs.declared.answer.Answer.{Answer}
+use Rattle.answers.specs.declared.answer.Answer.{Answer}
 use Rattle.access.specs.declared.answer.Traced.{Traced}
 use Rattle.access.proofs.ReportLaws.{lent-none}
 

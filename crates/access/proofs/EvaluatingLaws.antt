@@ -20,7 +20,7 @@ use Rattle.passes.specs.Confinement.{everything, confinementOf}
 use Rattle.passes.specs.declared.matching.Hits.{Hits}
 use Rattle.policy.specs.Rules.{Lists, unruled, narrowedBy, judgedBy, ruledFrom}
 use Rattle.policy.specs.declared.rules.Ruled.{Ruled}
-use Rattle.access.specs.Granted.{foundOf}
+use Rattle.access.specs.Evaluated.{foundOf}
 use Rattle.access.specs.Evaluating.{confinementIn, foundIn}
 
 -- ---- privileges

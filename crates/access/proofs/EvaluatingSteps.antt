@@ -24,7 +24,7 @@ use Rattle.policy.specs.Rules.{Lists, unruled, ruledBy}
 use Rattle.policy.specs.declared.rules.Ruled.{Ruled}
 use Rattle.policy.proofs.RulesLaws.{ruled-alike}
 use Rattle.access.specs.Evaluating.{crowdIn, flagsIn, privilegesIn, daclAs, confinementIn, foundIn}
-use Rattle.access.specs.declared.answer.Found.{Found}
+use Rattle.answers.specs.declared.answer.Found.{Found}
 
 -- ---- the chains of a crowd show the crowd
 

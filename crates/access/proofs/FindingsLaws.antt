@@ -16,12 +16,12 @@ use Rattle.records.specs.TokenRecord.{readRecord}
 use Rattle.records.specs.TokenRules.{keeps}
 use Rattle.masks.specs.KindsAndMasks.{knownKind, legal}
 use Rattle.audit.specs.Trail.{trailBytes}
-use Rattle.access.specs.Granted.{answerOf}
-use Rattle.access.specs.Status.{Question, refused, selfFits, descriptorNumber, policyNumber, findings, eventsFor}
+use Rattle.answers.specs.Granted.{answerOf, refused}
+use Rattle.access.specs.Status.{Question, selfFits, descriptorNumber, policyNumber, findings, eventsFor}
 use Rattle.access.specs.Status.{answerTo, afterToken, withToken, checked}
 use Rattle.access.specs.Reported.{report, refusal, trailFor, reportOf, reportPast}
 use Rattle.access.specs.Findings.{stopped, accepted, foundAfter, findingsOf}
-use Rattle.access.specs.declared.answer.Answer.{Answer}
+use Rattle.answers.specs.declared.answer.Answer.{Answer}
 use Rattle.access.specs.declared.answer.Findings.{Findings}
 
 -- ---- the ways out of `findings_in`

@@ -8,4 +8,3 @@ mod AuditingSteps
 mod AnsweringSteps
 mod SeatingLaws
 mod TokenSteps
-mod FileSteps

@@ -24,11 +24,12 @@ use Rattle.policy.proofs.PolicyLaws.{sound-by-lengths}
 use Rattle.policy.proofs.RulesLaws.{audits-some, staged-audits-some}
 use Rattle.audit.specs.Trail.{trailBytes}
 use Rattle.audit.proofs.NothingLaws.{nothing-there, no-events, no-stages}
-use Rattle.access.specs.Granted.{foundOf, flagged}
-use Rattle.access.specs.Status.{Question, refused, findings, byLists, soughtFor, hitsFor, raisedFor, eventsFor, answerTo}
+use Rattle.answers.specs.Granted.{flagged, refused}
+use Rattle.access.specs.Evaluated.{foundOf}
+use Rattle.access.specs.Status.{Question, findings, byLists, soughtFor, hitsFor, raisedFor, eventsFor, answerTo}
 use Rattle.access.specs.Reported.{Report, report, refusal, lending, inBuffer, Lent}
 use Rattle.access.specs.Evaluating.{reportIn}
-use Rattle.access.specs.declared.answer.Answer.{Answer}
+use Rattle.answers.specs.declared.answer.Answer.{Answer}
 use Rattle.access.specs.declared.answer.Traced.{Traced}
 
 -- ---- what is handed out without a trail

@@ -45,7 +45,7 @@ use Rattle.policy.specs.ByLengths.{rulesByLengths}
 use Rattle.policy.proofs.PolicyLaws.{sound-by-lengths}
 use Rattle.access.specs.Status.{descriptorNumber, policyNumber, daclIn, findings}
 use Rattle.access.specs.Evaluating.{daclAs, foundIn}
-use Rattle.access.specs.declared.answer.Found.{Found}
+use Rattle.answers.specs.declared.answer.Found.{Found}
 use Rattle.access.specs.declared.answer.Findings.{Findings}
 use Rattle.access.specs.Findings.{stopped, accepted, findingsOf}
 use Rattle.access.proofs.FindingsLaws.{findings-misshapen, findings-broken}

@@ -16,10 +16,11 @@ use Rattle.passes.specs.Confinement.{confines, everything}
 use Rattle.policy.specs.Rules.{Lists, ruledBy}
 use Rattle.audit.specs.Events.{eventsOf, stagesAudit}
 use Rattle.audit.specs.Trail.{trailBytes}
-use Rattle.access.specs.Granted.{soughtOf, flagged}
+use Rattle.answers.specs.Granted.{flagged}
+use Rattle.access.specs.Evaluated.{soughtOf}
 use Rattle.access.specs.Reported.{Report, report, lending}
-use Rattle.access.specs.declared.answer.Found.{Found}
-use Rattle.access.specs.declared.answer.Answer.{Answer}
+use Rattle.answers.specs.declared.answer.Found.{Found}
+use Rattle.answers.specs.declared.answer.Answer.{Answer}
 
 -- the normal identities, the flags, and the enabled privileges as far as they are read: bits 8 and 9 stand in the lower word
 abbrev pub crowdIn : List ℕ → List Member

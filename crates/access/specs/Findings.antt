@@ -13,7 +13,7 @@ use Rattle.records.specs.TokenRules.{keeps}
 use Rattle.records.specs.FlatListing.{listingOf}
 use Rattle.lists.specs.Descriptor.{partsOf}
 use Rattle.access.specs.Status.{selfFits, descriptorNumber, policyNumber, findings}
-use Rattle.access.specs.declared.answer.Found.{Found}
+use Rattle.answers.specs.declared.answer.Found.{Found}
 use Rattle.access.specs.declared.answer.Findings.{Findings}
 
 -- on refusal every mask is 0, and no SACL is told

@@ -12,8 +12,9 @@ use Rattle.base.specs.Bytes.Read.{none, some}
 use Rattle.records.specs.Token.{Token}
 use Rattle.records.specs.TokenRecord.{readRecord}
 use Rattle.audit.specs.Trail.{trailBytes}
-use Rattle.access.specs.Status.{Question, refused, eventsFor, withToken, checked}
-use Rattle.access.specs.declared.answer.Answer.{Answer}
+use Rattle.answers.specs.Granted.{refused}
+use Rattle.access.specs.Status.{Question, eventsFor, withToken, checked}
+use Rattle.answers.specs.declared.answer.Answer.{Answer}
 use Rattle.access.specs.declared.answer.Traced.{Traced}
 
 -- an answer, and the bytes of its trail

@@ -1,7 +1,7 @@
 -- "Status numbers, in order of checking": the lowest number that applies is given; shape is judged over a whole part before its later numbers.
 use Prim.Native.Nat.{ℕ}
 use mathlib.Core.List.{List}
-use mathlib.Core.Bool.{Bool, true, false, cond, not}
+use mathlib.Core.Bool.{Bool, true, cond, not}
 use lib.ListN.{length}
 use lib.Dec.{eqb}
 use Rattle.base.specs.Bytes.{Read}
@@ -23,9 +23,10 @@ use Rattle.policy.specs.Policy.{standingOf}
 use Rattle.policy.specs.Rules.{rulesOf}
 use Rattle.audit.specs.Events.{Event, eventsOf, stagesAudit}
 use Rattle.audit.specs.declared.firing.Sought.{Sought}
-use Rattle.access.specs.Granted.{foundOf, answerOf, soughtOf, flagged}
-use Rattle.access.specs.declared.answer.Answer.{Answer}
-use Rattle.access.specs.declared.answer.Found.{Found}
+use Rattle.answers.specs.Granted.{refused, answerOf, flagged}
+use Rattle.access.specs.Evaluated.{foundOf, soughtOf}
+use Rattle.answers.specs.declared.answer.Answer.{Answer}
+use Rattle.answers.specs.declared.answer.Found.{Found}
 
 -- "A question has an object kind, a desired mask, a token record, a self identity (may be empty), a self-relative descriptor and one policy (may be
 -- empty)."
@@ -36,19 +37,6 @@ pub record Question : Type 0 where
   pub self : List ℕ
   pub descriptor : List ℕ
   pub policy : List ℕ
-
--- "On refusal mask 0, allowed no, flag clear"; "A refusal zeroes all four" masks (request 106)
-abbrev pub refused : ℕ → Answer
-refused n =
-    record {
-      status = n;
-      normal = record { 0 = 0 };
-      confined = record { 0 = 0 };
-      ruled = record { 0 = 0 };
-      granted = record { 0 = 0 };
-      allowed = false;
-      staged = false;
-    }
 
 -- 5: "self identity neither empty nor exactly one SID"
 unfoldable pub selfFits : List ℕ → Bool

@@ -6,10 +6,10 @@ ghost use lib.ListN.{length};
 ghost use Rattle.records.specs.Unpacking.{roomFits};
 ghost use Rattle.access.specs.Reported.{lending, inBuffer, reportPast, Lent};
 use crate::answer::Traced;
-use crate::answer::read_off;
 use crate::answer::untraced;
 use crate::auditing::audited;
 use crate::finding::findings_in;
+use answers::read_off;
 use lists::Rights;
 
 // Whether an audit is to be made: a rule that applies has a staged SACL, or a buffer is lent and a

@@ -1,37 +1,17 @@
 // The audit of an answer, over a token's flat listing: whether a staged SACL raises the staging flag,
 // and the trail in the buffer that was lent.
-ghost use mathlib.Core.Path.{_≡_};
 ghost use Prim.Native.Nat.{_<_, _≤_};
 ghost use lib.ListN.{length};
 ghost use Rattle.policy.specs.ByLengths.{rulesByLengths};
-ghost use Rattle.access.specs.Granted.{flagged};
 ghost use Rattle.access.specs.Reported.{inBuffer, Lent};
 ghost use Rattle.access.specs.Evaluating.{crowdIn, reportIn};
-use crate::answer::Answer;
 use crate::answer::Traced;
 use crate::answer::untraced;
 use crate::evaluate::USER;
+use answers::Answer;
+use answers::flagged;
 use audit::Sought;
 use lists::Rights;
-
-// The answer, with the staging flag raised where staged audit says so.
-fn flagged(a: Answer, raised: bool) -> Answer
-    ensures { λ r. ⌜ r ≡ flagged a raised ⌝ }
-{
-    let normal = a.normal;
-    let confined = a.confined;
-    let ruled = a.ruled;
-    let granted = a.granted;
-    Answer {
-        status: a.status,
-        normal,
-        confined,
-        ruled,
-        granted,
-        allowed: a.allowed,
-        staged: base::either(a.staged, raised),
-    }
-}
 
 // The report on an answer: the trail in `out` where that is lent, and 11 where it does not fit. The
 // normal identities are seated once more: no audit is made where no list asks for it.

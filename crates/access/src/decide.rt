@@ -4,10 +4,10 @@ ghost use Rattle.masks.specs.KindsAndMasks.{knownKind};
 ghost use lib.ListN.{length};
 ghost use Rattle.access.specs.Status.{checked};
 ghost use Rattle.access.specs.Reported.{reportOf, lending, inBuffer, Lent};
-use crate::answer::Answer;
 use crate::answer::Traced;
 use crate::answer::untraced;
 use crate::answering::answered;
+use answers::Answer;
 use lists::Rights;
 
 // 1 file, 2 key.
@@ -21,7 +21,7 @@ fn is_kind(kind: u32) -> bool
 }
 
 // The report on a question, where a buffer is lent for its trail or not.
-pub(crate) fn reported(
+pub fn reported(
     kind: u32,
     mask: Rights,
     token: &[u8],

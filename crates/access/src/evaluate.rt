@@ -8,7 +8,7 @@ ghost use Rattle.passes.specs.Confinement.{confines};
 ghost use Rattle.policy.specs.ByLengths.{rulesByLengths};
 ghost use Rattle.access.specs.Evaluating.{daclAs, confinementIn, foundIn};
 ghost use Rattle.access.specs.Evaluating.{beside, few, Seatable};
-use crate::answer::Found;
+use answers::Found;
 use lists::Rights;
 use masks::Tally;
 

@@ -3,7 +3,7 @@
 // `ask trail FILE` the same line and then the events of the audit trail, a line each. What answer
 // and trail are, refusals included, is for `access::question` and `access::trail_question` to say. A
 // write that fails is said on standard error; the language has no exit status to say it with.
-use access::Answer;
+use answers::Answer;
 use libc::STDERR_FILENO;
 use libc::STDIN_FILENO;
 use libc::STDOUT_FILENO;
@@ -124,14 +124,14 @@ fn print_events(trail: &[u8], length: usize) -> bool {
 // longest trail of a question file.
 fn print_trail(file: &[u8]) -> bool {
     let mut trail = [0u8; 36864];
-    let t = access::trail_question(file, &mut trail);
+    let t = questions::trail_question(file, &mut trail);
     print_answer(t.answer) && print_events(&trail, t.length)
 }
 
 fn print_told(file: &[u8], t: Task) -> bool {
     match t {
-        Task::Ask => print_answer(access::question(file)),
-        Task::Why => print_steps(access::question(file)),
+        Task::Ask => print_answer(questions::question(file)),
+        Task::Why => print_steps(questions::question(file)),
         Task::Trail => print_trail(file),
     }
 }

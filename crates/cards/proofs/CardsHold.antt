@@ -7,9 +7,10 @@ use Rattle.base.specs.Bits.{bit}
 use Rattle.records.specs.Token.{Token, unconfined}
 use Rattle.records.specs.FlatListing.{listingOf}
 use Rattle.records.specs.Converters.{asListing, fitted, refusal, result}
-use Rattle.access.specs.Status.{checked, refused}
-use Rattle.access.specs.QuestionFile.{fileAnswer}
-use Rattle.access.specs.declared.answer.Answer.{Answer}
+use Rattle.answers.specs.Granted.{refused}
+use Rattle.access.specs.Status.{checked}
+use Rattle.questions.specs.QuestionFile.{fileAnswer}
+use Rattle.answers.specs.declared.answer.Answer.{Answer}
 use Rattle.cards.specs.Cards.{TU, Card, cards, refusals, file-c1, file-long, given}
 use Rattle.cards.specs.ConditionalCards.{conditional}
 use Rattle.cards.specs.StepCards.{scanner, steps}

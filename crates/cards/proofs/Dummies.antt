@@ -12,7 +12,7 @@ use Rattle.lists.specs.Descriptor.{ownerOf}
 use Rattle.policy.specs.Rules.{rulesOf}
 use Rattle.access.specs.Status.{Question, checked, daclIn}
 use Rattle.cards.specs.Cards.{asks, stepwise, given, TU, D, token-1, descriptor-1, descriptor-3}
-use Rattle.access.specs.declared.answer.Answer.{Answer}
+use Rattle.answers.specs.declared.answer.Answer.{Answer}
 use Rattle.cards.proofs.Opened.{the-page}
 
 -- ---- five questions, and their answers

@@ -27,10 +27,11 @@ use Rattle.policy.specs.Policy.{sectionAt, aclSection, maybeAcl, appliesSection
 use Rattle.policy.specs.Rules.{rulesAt, rulesOf, narrowedBy, judgedBy, ruledFrom}
 use Rattle.audit.specs.Events.{spotAt, auditsAt, auditsOf, fires, eventsFrom, rulesEvents, masksIn, stagesAudit}
 use Rattle.audit.specs.Trail.{trailBytes}
-use Rattle.access.specs.Granted.{foundOf, answerOf}
+use Rattle.answers.specs.Granted.{answerOf}
+use Rattle.access.specs.Evaluated.{foundOf}
 use Rattle.access.specs.Status.{selfFits, answerTo, afterToken, checked}
 use Rattle.access.specs.Reported.{reportOf, inBuffer}
-use Rattle.access.specs.QuestionFile.{blobAt, questionOf, fileAnswer, fileReport}
+use Rattle.questions.specs.QuestionFile.{blobAt, questionOf, fileAnswer, fileReport}
 use Rattle.demands.specs.Strangers.{inGroups, known, struck, struckAudits, unnumbered}
 use Rattle.demands.specs.OwnerEntries.{ofObject}
 use Rattle.cards.specs.Cards.{manyRules}

@@ -11,7 +11,7 @@ use Rattle.masks.specs.KindsAndMasks.{asked}
 use Rattle.passes.specs.NormalEvaluation.{Dacl}
 use Rattle.policy.specs.Rules.{Lists}
 use Rattle.access.specs.Status.{Question, daclIn, checked}
-use Rattle.access.specs.declared.answer.Answer.{Answer}
+use Rattle.answers.specs.declared.answer.Answer.{Answer}
 use Rattle.demands.specs.OwnerEntries.{OwnerEntry, GoesBy, OwnerAsks, ownersRights, itsList, byObject}
 use Rattle.demands.specs.OwnerEntries.GoesBy.{descriptors, rules}
 use Rattle.demands.proofs.OwnerEntriesLaws.{named-when}

@@ -4,8 +4,9 @@ use Prim.Native.Nat.{ℕ, zero, suc}
 use mathlib.Core.List.{List, [], _∷_, _++_}
 use mathlib.Core.Bool.{Bool, true, false}
 use Rattle.base.specs.Bytes.{little}
-use Rattle.access.specs.Status.{Question, refused}
-use Rattle.access.specs.declared.answer.Answer.{Answer}
+use Rattle.answers.specs.Granted.{refused}
+use Rattle.access.specs.Status.{Question}
+use Rattle.answers.specs.declared.answer.Answer.{Answer}
 
 abbrev pub asks : ℕ → ℕ → List ℕ → List ℕ → List ℕ → List ℕ → Question
 asks k m t s d p = record { kind = k; mask = m; token = t; self = s; descriptor = d; policy = p }

@@ -4,7 +4,7 @@ use Prim.Native.Nat.{ℕ}
 use mathlib.Core.List.{List, [], _∷_, _++_}
 use mathlib.Core.Bool.{true, false}
 use Rattle.sids.specs.Sid.{ownerRights}
-use Rattle.access.specs.Status.{refused}
+use Rattle.answers.specs.Granted.{refused}
 use Rattle.cards.specs.Cards.{asks, stepwise, given, Card, _⇒_, TU, TW, D}
 
 abbrev U : List ℕ

@@ -12,9 +12,10 @@ use Rattle.records.specs.Token.{Token}
 use Rattle.records.specs.TokenRecord.{readRecord}
 use Rattle.records.specs.TokenRules.{keeps}
 use Rattle.masks.specs.KindsAndMasks.{knownKind, legal}
-use Rattle.access.specs.Status.{Question, refused, selfFits, descriptorNumber, policyNumber, afterToken, withToken, checked}
+use Rattle.answers.specs.Granted.{refused}
+use Rattle.access.specs.Status.{Question, selfFits, descriptorNumber, policyNumber, afterToken, withToken, checked}
 use Rattle.demands.specs.Accepted.{Accepted, tokenOf, tokenIn, byRules}
-use Rattle.access.specs.declared.answer.Answer.{Answer}
+use Rattle.answers.specs.declared.answer.Answer.{Answer}
 
 -- a number that is not 0 accepts nothing
 never : {A : Type 0} (n : ℕ) → eqb n 0 ≡ false → n ≡ 0 → A

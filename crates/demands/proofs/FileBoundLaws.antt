@@ -18,7 +18,7 @@ use Rattle.base.proofs.ReadLaws.{bound, allowed, moved}
 use Rattle.base.proofs.SevensLaws.{number-bounds}
 use Rattle.access.specs.Status.{Question}
 use Rattle.access.specs.Reported.{refusal}
-use Rattle.access.specs.QuestionFile.{blobAt, questionOf, reporting, fileReport}
+use Rattle.questions.specs.QuestionFile.{blobAt, questionOf, reporting, fileReport}
 use Rattle.demands.proofs.TrailBoundLaws.{trail-bound}
 
 -- ---- the parts of a file

@@ -12,11 +12,12 @@ use lib.ListN.{length}
 use lib.Dec.{ltb}
 use Rattle.base.specs.Bytes.{Read}
 use Rattle.base.specs.Bytes.Read.{none, some}
-use Rattle.access.specs.Status.{Question, refused, checked}
+use Rattle.answers.specs.Granted.{refused}
+use Rattle.access.specs.Status.{Question, checked}
 use Rattle.demands.specs.Accepted.{GrantsNothing}
-use Rattle.access.specs.QuestionFile.{questionOf, answering, fileAnswer}
+use Rattle.questions.specs.QuestionFile.{questionOf, answering, fileAnswer}
 use Rattle.demands.specs.Conditions.{misshapen, fileMisshapen}
-use Rattle.access.specs.declared.answer.Answer.{Answer}
+use Rattle.answers.specs.declared.answer.Answer.{Answer}
 use Rattle.demands.proofs.StatusLaws.{status-le, grants-nothing, refused-grants-nothing}
 
 pub file-refused : (s : List ℕ) → fileMisshapen s ≡ true → fileAnswer s ≡ refused 12

@@ -14,7 +14,7 @@ use Rattle.base.specs.Bytes.{Read}
 use Rattle.base.specs.Bytes.Read.{none, some}
 use Rattle.access.specs.Status.{Question, checked}
 use Rattle.access.specs.Reported.{Report, refusal, reportOf, inBuffer, Lent}
-use Rattle.access.specs.QuestionFile.{questionOf, reporting, fileReport}
+use Rattle.questions.specs.QuestionFile.{questionOf, reporting, fileReport}
 use Rattle.access.specs.declared.answer.Traced.{Traced}
 use Rattle.pirasteh.specs.Followed.{Followed}
 use Rattle.demands.specs.Conditions.{misshapen, fileMisshapen}

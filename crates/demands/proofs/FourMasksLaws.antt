@@ -22,9 +22,10 @@ use Rattle.passes.specs.Matching.{hitsOf}
 use Rattle.passes.specs.NormalEvaluation.{Dacl, normalOf}
 use Rattle.passes.specs.Confinement.{confines, everything, confinementOf}
 use Rattle.policy.specs.Rules.{Lists, rulesOf, ruledFrom, ruledBy}
-use Rattle.access.specs.Granted.{foundOf, answerOf}
+use Rattle.answers.specs.Granted.{answerOf}
+use Rattle.access.specs.Evaluated.{foundOf}
 use Rattle.access.specs.Status.{Question, daclIn, answerTo, checked}
-use Rattle.access.specs.declared.answer.Answer.{Answer}
+use Rattle.answers.specs.declared.answer.Answer.{Answer}
 use Rattle.demands.specs.Accepted.{Accepted, tokenIn, byRules, ruledOn}
 use Rattle.demands.specs.Strangers.{SameButOneRule}
 use Rattle.demands.specs.FourMasks.{Narrowing, FirstTwoStill, Step, takes, TakenOnce}

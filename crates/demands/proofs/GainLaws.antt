@@ -14,7 +14,8 @@ use Rattle.passes.specs.NormalEvaluation.{Dacl, normalOf}
 use Rattle.passes.specs.Confinement.{confinementOf}
 use Rattle.policy.specs.Rules.{Lists, unruled}
 use Rattle.policy.proofs.RulesLaws.{ruled-within}
-use Rattle.access.specs.Granted.{foundOf, answerOf}
+use Rattle.answers.specs.Granted.{answerOf}
+use Rattle.access.specs.Evaluated.{foundOf}
 use Rattle.access.specs.Status.{Question, daclIn, answerTo, checked}
 use Rattle.demands.specs.Accepted.{Accepted, tokenIn, byRules}
 use Rattle.demands.specs.Strangers.{SameButOneRule}

@@ -30,9 +30,10 @@ use Rattle.passes.specs.Confinement.{everything, confinementOf}
 use Rattle.passes.specs.declared.matching.Hits.{Hits}
 use Rattle.policy.specs.Rules.{Lists, rulesOf, resultOf, unruled, appliesTo, narrowedBy, judgedBy, ruledFrom, ruledBy}
 use Rattle.policy.specs.declared.rules.Ruled.{Ruled}
-use Rattle.access.specs.Granted.{foundOf, answerOf}
+use Rattle.answers.specs.Granted.{answerOf}
+use Rattle.access.specs.Evaluated.{foundOf}
 use Rattle.access.specs.Status.{Question, daclIn, answerTo, checked}
-use Rattle.access.specs.declared.answer.Answer.{Answer}
+use Rattle.answers.specs.declared.answer.Answer.{Answer}
 use Rattle.demands.specs.Accepted.{Accepted, tokenIn}
 use Rattle.demands.specs.OwnerEntries.{OwnerEntry, GoesBy, OwnerAsks, ownersRights, itsList}
 use Rattle.demands.specs.OwnerEntries.GoesBy.{descriptors, rules}

@@ -27,7 +27,8 @@ use Rattle.masks.proofs.MasksLaws.{all-bits-high, within-false}
 use Rattle.passes.proofs.MatchingLaws.{stands-virtual}
 use Rattle.passes.proofs.OnePassLaws.{passed-within}
 use Rattle.policy.specs.Rules.{Lists, rulesOf, ruledBy}
-use Rattle.access.specs.Granted.{foundOf, answerOf}
+use Rattle.answers.specs.Granted.{answerOf}
+use Rattle.access.specs.Evaluated.{foundOf}
 use Rattle.access.specs.Status.{Question, daclIn, answerTo, checked}
 use Rattle.demands.specs.Accepted.{tokenIn, byRules}
 use Rattle.demands.proofs.StatusLaws.{granted-cases}

@@ -28,9 +28,10 @@ use Rattle.policy.specs.declared.rules.Ruled.{Ruled}
 use Rattle.policy.proofs.RulesSteps.{judged-passed}
 use Rattle.audit.specs.Events.{ruleStages, stagesAudit}
 use Rattle.audit.specs.declared.firing.Sought.{Sought}
-use Rattle.access.specs.Granted.{foundOf, answerOf, soughtOf, flagged}
+use Rattle.answers.specs.Granted.{answerOf, flagged}
+use Rattle.access.specs.Evaluated.{foundOf, soughtOf}
 use Rattle.access.specs.Status.{Question, daclIn, answerTo, checked}
-use Rattle.access.specs.declared.answer.Found.{Found}
+use Rattle.answers.specs.declared.answer.Found.{Found}
 use Rattle.demands.specs.Accepted.{Accepted, tokenIn, byRules, ruledOn}
 use Rattle.demands.specs.Strangers.{known, struck, SameButOneRule}
 use Rattle.demands.specs.SomeCallers.{applies, Conditioned, conditionedBy}

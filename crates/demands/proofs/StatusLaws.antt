@@ -19,8 +19,8 @@ use Rattle.records.specs.Token.{Token}
 use Rattle.records.specs.TokenRecord.{readRecord}
 use Rattle.records.specs.TokenRules.{keeps}
 use Rattle.masks.specs.KindsAndMasks.{knownKind, legal, asked}
-use Rattle.access.specs.Granted.{answerOf}
-use Rattle.access.specs.Status.{Question, refused, selfFits, descriptorNumber, policyNumber, answerTo, afterToken, withToken, checked}
+use Rattle.answers.specs.Granted.{answerOf, refused}
+use Rattle.access.specs.Status.{Question, selfFits, descriptorNumber, policyNumber, answerTo, afterToken, withToken, checked}
 use Rattle.demands.specs.Accepted.{Accepted, GrantsNothing, tokenIn, byRules}
 use Rattle.demands.specs.Conditions.{
   Line,
@@ -36,7 +36,7 @@ use Rattle.demands.specs.Conditions.{
   policyUnread,
   conditions,
 }
-use Rattle.access.specs.declared.answer.Answer.{Answer}
+use Rattle.answers.specs.declared.answer.Answer.{Answer}
 use Rattle.demands.proofs.AcceptedLaws.{accepted-is}
 use Rattle.demands.proofs.NumbersLaws.{descriptor-number-is, policy-number-is}
 

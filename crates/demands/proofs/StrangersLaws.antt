@@ -18,9 +18,10 @@ use Rattle.passes.specs.declared.matching.Hits.{Hits}
 use Rattle.masks.specs.declared.tally.Tally.{Tally}
 use Rattle.policy.specs.Rules.{Lists, rulesOf, unruled, appliesTo, narrowedBy, judgedBy, ruledFrom}
 use Rattle.policy.specs.declared.rules.Ruled.{Ruled}
-use Rattle.access.specs.Granted.{foundOf, answerOf, flagged}
+use Rattle.answers.specs.Granted.{answerOf, flagged}
+use Rattle.access.specs.Evaluated.{foundOf}
 use Rattle.access.specs.Status.{Question, daclIn, byLists, soughtFor, hitsFor, raisedFor, answerTo, checked}
-use Rattle.access.specs.declared.answer.Answer.{Answer}
+use Rattle.answers.specs.declared.answer.Answer.{Answer}
 use Rattle.demands.specs.Accepted.{Accepted, tokenIn, byRules, eventsGiven}
 use Rattle.demands.specs.Strangers.{known, struck, AlikeRule, AlikeRules, SameButStrangers, unnumbered}
 use Rattle.demands.specs.Strangers.AlikeRules.{no-rules, one-more}

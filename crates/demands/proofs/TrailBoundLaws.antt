@@ -37,10 +37,11 @@ use Rattle.audit.specs.Events.{eventsIn, rulesEvents, eventsOf}
 use Rattle.audit.specs.Trail.{trailBytes}
 use Rattle.audit.specs.declared.firing.Sought.{Sought}
 use Rattle.demands.proofs.SaclBoundLaws.{trail-append, sacl-bound, rules-bound}
-use Rattle.access.specs.Status.{Question, refused, selfFits, descriptorNumber, policyNumber, answerTo, afterToken, withToken, checked}
+use Rattle.answers.specs.Granted.{refused}
+use Rattle.access.specs.Status.{Question, selfFits, descriptorNumber, policyNumber, answerTo, afterToken, withToken, checked}
 use Rattle.access.specs.Status.{eventsFor}
 use Rattle.access.specs.Reported.{reportOf, trailFor}
-use Rattle.access.specs.declared.answer.Answer.{Answer}
+use Rattle.answers.specs.declared.answer.Answer.{Answer}
 
 -- ---- an accepted question
 

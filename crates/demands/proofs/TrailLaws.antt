@@ -20,9 +20,10 @@ use Rattle.records.specs.Token.{Token}
 use Rattle.records.specs.TokenRecord.{readRecord}
 use Rattle.masks.specs.KindsAndMasks.{knownKind, legal}
 use Rattle.audit.specs.Trail.{trailBytes}
-use Rattle.access.specs.Status.{Question, refused, byLists, raisedFor, answerTo, withToken, checked}
+use Rattle.answers.specs.Granted.{refused}
+use Rattle.access.specs.Status.{Question, byLists, raisedFor, answerTo, withToken, checked}
 use Rattle.access.specs.Reported.{Report, report, refusal, trailFor, reportOf, inBuffer, Lent}
-use Rattle.access.specs.declared.answer.Answer.{Answer}
+use Rattle.answers.specs.declared.answer.Answer.{Answer}
 use Rattle.access.specs.declared.answer.Traced.{Traced}
 use Rattle.pirasteh.specs.Followed.{Followed}
 use Rattle.demands.specs.Accepted.{Accepted, tokenIn, eventsGiven}

@@ -12,9 +12,10 @@ use Rattle.passes.specs.Matching.{hitsOf}
 use Rattle.passes.specs.NormalEvaluation.{Dacl}
 use Rattle.policy.specs.Rules.{Lists}
 use Rattle.audit.specs.Events.{Event, stagesAudit}
-use Rattle.access.specs.Granted.{foundOf, answerOf, soughtOf, flagged}
+use Rattle.answers.specs.Granted.{answerOf, flagged}
+use Rattle.access.specs.Evaluated.{foundOf, soughtOf}
 use Rattle.access.specs.Status.{Question, eventsFor, answerTo, checked}
-use Rattle.access.specs.declared.answer.Answer.{Answer}
+use Rattle.answers.specs.declared.answer.Answer.{Answer}
 
 abbrev pub Accepted : Question → Type 0
 Accepted q = checked q .status ≡ 0

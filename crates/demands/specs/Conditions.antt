@@ -14,7 +14,7 @@ use Rattle.records.specs.TokenRules.{keeps}
 use Rattle.masks.specs.KindsAndMasks.{knownKind, legal}
 use Rattle.policy.specs.Policy.{rulesShaped, rulesUnread}
 use Rattle.access.specs.Status.{Question, selfFits}
-use Rattle.access.specs.QuestionFile.{questionOf}
+use Rattle.questions.specs.QuestionFile.{questionOf}
 
 -- | No. | Given exactly when |
 pub record Line : Type 0 where

@@ -3,7 +3,7 @@ use Prim.Native.Nat.{ℕ}
 use mathlib.Core.Path.{_≡_}
 use mathlib.Core.Bool.{Bool, true, not, _&&_}
 use Rattle.base.specs.Bits.{bit, Within}
-use Rattle.access.specs.declared.answer.Answer.{Answer}
+use Rattle.answers.specs.declared.answer.Answer.{Answer}
 
 -- "Each lies within the one before; the last two are equal", the first within the bits asked
 pub record Narrowing (bits : ℕ) (a : Answer) : Type 0 where

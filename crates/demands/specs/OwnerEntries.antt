@@ -13,7 +13,7 @@ use Rattle.passes.specs.NormalEvaluation.{Dacl, listed, listGives}
 use Rattle.passes.specs.Confinement.{confinementOf}
 use Rattle.policy.specs.Rules.{Lists, rulesOf}
 use Rattle.access.specs.Status.{Question, daclIn}
-use Rattle.access.specs.declared.answer.Answer.{Answer}
+use Rattle.answers.specs.declared.answer.Answer.{Answer}
 use Rattle.demands.specs.Accepted.{tokenIn, ruledOn}
 use Rattle.demands.specs.SomeCallers.{applies}
 

@@ -13,14 +13,14 @@ use Rattle.base.specs.Bytes.{u32At, part, same}
 use Rattle.sids.specs.Sid.{sidEnd}
 use Rattle.records.specs.Crowd.{Member, membersAt, crowdAt}
 use Rattle.passes.specs.Chains.{row, chain, shownUnder, shown, Tables, tables, linked, chained, chainsOf}
-use Rattle.passes.specs.Key.{keyOf}
+use Rattle.seats.specs.Key.{keyOf}
 use Rattle.passes.specs.Matching.{among}
-use Rattle.passes.specs.Seats.{firstSeat, seatAt, seated, fromSeat}
-use Rattle.passes.specs.declared.seats.Seat.{Seat}
+use Rattle.seats.specs.Seats.{firstSeat, seatAt, seated, fromSeat}
+use Rattle.seats.specs.declared.seats.Seat.{Seat}
 use Rattle.passes.proofs.ChainsLaws.{chain-nought, among-shown}
 use Rattle.passes.proofs.LinkLaws.{Seated, Holds, With, linked-holds}
 use Rattle.passes.proofs.LinkSteps.{chained-none, chained-last, chained-more}
-use Rattle.passes.proofs.SeatsLaws.{crowd-first, seats-more}
+use Rattle.seats.proofs.SeatsLaws.{crowd-first, seats-more}
 
 -- ---- all of them
 

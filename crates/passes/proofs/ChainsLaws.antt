@@ -14,9 +14,9 @@ use Rattle.base.proofs.BytesLaws.{same-eq}
 use Rattle.base.specs.Bytes.{same}
 use Rattle.records.specs.Crowd.{Member}
 use Rattle.passes.specs.Chains.{nextIn, sitsIn, joined, row, near, chain, headOf, shownUnder, keyed, shownBelow, shown}
-use Rattle.passes.specs.Key.{keyOf}
+use Rattle.seats.specs.Key.{keyOf}
 use Rattle.passes.specs.Matching.{among}
-use Rattle.passes.proofs.KeyLaws.{key-lt}
+use Rattle.seats.proofs.KeyLaws.{key-lt}
 use Rattle.passes.proofs.RowLaws.{row-frame}
 use Rattle.passes.proofs.SitsLaws.{joined-hit, joined-miss}
 

@@ -1,7 +1,6 @@
 -- The laws of this crate's definitions, for the proofs of its callers.
 pub mod MatchingLaws
 pub mod OnePassLaws
-pub mod KeyLaws
 pub mod ChainsLaws
 mod CellLaws
 mod SitsLaws
@@ -10,6 +9,5 @@ mod LinkLaws
 pub mod ChainedLaws
 pub mod CrowdsLaws
 pub mod EvaluationLaws
-pub mod SeatsLaws
 mod LinkSteps
 mod WalkSteps

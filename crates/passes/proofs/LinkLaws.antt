@@ -17,13 +17,13 @@ use Rattle.sids.specs.Sid.{sidEnd}
 use Rattle.records.specs.Crowd.{Member}
 use Rattle.passes.specs.Chains.{cellOf, toIn, nextIn, lastIn, memberIn, sitsIn, near, row, chain, shownUnder}
 use Rattle.passes.specs.Chains.{Tables, tables, linked}
-use Rattle.passes.specs.Key.{keyOf, lastOf}
+use Rattle.seats.specs.Key.{keyOf, lastOf}
 use Rattle.passes.specs.Matching.{among}
-use Rattle.passes.specs.Seats.{seated}
-use Rattle.passes.specs.declared.seats.Seat.{Seat}
+use Rattle.seats.specs.Seats.{seated}
+use Rattle.seats.specs.declared.seats.Seat.{Seat}
 use Rattle.passes.proofs.CellLaws.{cell-to, cell-next, cell-last, cell-member}
 use Rattle.passes.proofs.ChainsLaws.{rest, chain-skip, chain-frame, chain-first}
-use Rattle.passes.proofs.KeyLaws.{key-lt}
+use Rattle.seats.proofs.KeyLaws.{key-lt}
 use Rattle.passes.proofs.RowLaws.{row-first, row-frame}
 use Rattle.passes.proofs.SitsLaws.{joined-is}
 

@@ -8,9 +8,9 @@ use borrow.Author.Tests.{eq-eqb, ne-eqb, lt-ltb, le-ltb}
 use lib.ListN.{length, getD, set}
 use Rattle.base.specs.Bytes.{u32At, part}
 use Rattle.passes.specs.Chains.{cellOf, Tables, tables, linked, stops, chained, chainsOf}
-use Rattle.passes.specs.Key.{keyOf, lastOf}
-use Rattle.passes.specs.Seats.{firstSeat, seatAt}
-use Rattle.passes.specs.declared.seats.Seat.{Seat}
+use Rattle.seats.specs.Key.{keyOf, lastOf}
+use Rattle.seats.specs.Seats.{firstSeat, seatAt}
+use Rattle.seats.specs.declared.seats.Seat.{Seat}
 
 pub chains-start : (attrs : Bool) (s : List ℕ) (at n : ℕ) (x : Seat) (t : Tables) → x ≡ firstSeat s at → n ≡ u32At s (x .to) →
     chainsOf attrs s at t ≡ chained attrs s t 1 n x

@@ -11,7 +11,7 @@ use lib.Seq.{getD-set-other}
 use Rattle.base.proofs.BoolLaws.{neither}
 use Rattle.records.specs.Crowd.{Member}
 use Rattle.passes.specs.Chains.{lastIn, sitsIn, joined, row}
-use Rattle.passes.specs.Key.{lastOf}
+use Rattle.seats.specs.Key.{lastOf}
 use Rattle.passes.specs.Matching.{among}
 use Rattle.passes.proofs.SitsLaws.{sits-other, joined-hit, joined-miss}
 

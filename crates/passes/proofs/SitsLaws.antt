@@ -11,7 +11,7 @@ use Rattle.base.proofs.BytesLaws.{same-eq}
 use Rattle.base.specs.Bytes.{part, same}
 use Rattle.records.specs.Crowd.{Member}
 use Rattle.passes.specs.Chains.{fromIn, toIn, lastIn, allowsIn, deniesIn, memberIn, holdsOne, sitsIn, joined}
-use Rattle.passes.specs.Key.{lastOf}
+use Rattle.seats.specs.Key.{lastOf}
 use Rattle.passes.specs.Matching.{among}
 
 module _ (allow : Bool) (s : List ℕ) (x : ℕ) (w : List ℕ) where

@@ -8,9 +8,9 @@ use lib.ListN.{length, getD, set}
 use lib.Dec.{ltb, eqb}
 use Rattle.base.specs.Bytes.{u32At, part, same}
 use Rattle.records.specs.Crowd.{Member}
-use Rattle.passes.specs.Key.{keyOf, lastOf}
-use Rattle.passes.specs.Seats.{firstSeat, seatAt}
-use Rattle.passes.specs.declared.seats.Seat.{Seat}
+use Rattle.seats.specs.Key.{keyOf, lastOf}
+use Rattle.seats.specs.Seats.{firstSeat, seatAt}
+use Rattle.seats.specs.declared.seats.Seat.{Seat}
 
 -- ---- a cell: where a seat's SID stands, the number of the next seat of its chain, how it matches, and the SID's last word
 

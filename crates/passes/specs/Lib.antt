@@ -7,10 +7,7 @@ pub mod OnePass
 pub mod NormalEvaluation
 -- the same list with the confinement identities alone
 pub mod Confinement
--- how the code goes about it: a listing read seat by seat
-pub mod Seats
--- how the code goes about it: the key of a SID, and the seats of a listing chained by their keys
-pub mod Key
+-- how the code goes about it: the seats of a listing chained by the keys of their SIDs
 pub mod Chains
 -- what one walk answers, for every evaluation
 pub mod OneWalk

@@ -4,11 +4,11 @@ ghost use mathlib.Core.Path.{_≡_};
 ghost use mathlib.Core.Bool.{cond};
 ghost use Prim.Native.Nat.{_≤_};
 ghost use Rattle.passes.specs.Chains.{cellOf, tables, chainsOf};
-use crate::key::key;
-use crate::key::last;
-use crate::seats::Seat;
-use crate::seats::first_seat;
-use crate::seats::seat_at;
+use seats::Seat;
+use seats::first_seat;
+use seats::key;
+use seats::last;
+use seats::seat_at;
 
 // The number, where the test holds.
 fn when(b: bool, n: u64) -> u64

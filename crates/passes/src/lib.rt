@@ -3,10 +3,8 @@
 // tokens are refused, and how a listing is made, is not known here.
 mod chains;
 mod evaluation;
-mod key;
 mod matching;
 mod search;
-mod seats;
 mod stand;
 mod walk;
 mod weighing;

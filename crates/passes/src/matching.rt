@@ -5,11 +5,11 @@ ghost use lib.ListN.{length};
 ghost use Rattle.passes.specs.Chains.{chain, shown};
 ghost use Rattle.passes.specs.Matching.{among, side, matches};
 ghost use Rattle.passes.specs.OneWalk.{virtualMatches};
-use crate::key::last;
 use crate::search::head;
 use crate::search::is_near;
 use crate::search::next;
 use crate::search::sits;
+use seats::last;
 
 // How an identity stands in for a virtual one, for allow and for deny.
 pub struct Hit {

@@ -6,12 +6,12 @@ ghost use mathlib.Core.Bool.{cond, _||_};
 ghost use Prim.Native.Nat.{_-_, _≤_, _<_};
 ghost use lib.Dec.{eqb};
 ghost use lib.ListN.{length, getD};
-ghost use Rattle.passes.specs.Key.{lastOf};
+ghost use Rattle.seats.specs.Key.{lastOf};
 ghost use Rattle.passes.specs.Matching.{among};
 ghost use Rattle.passes.specs.Chains.{nextIn, lastIn, allowsIn, deniesIn, sitsIn};
 ghost use Rattle.passes.specs.Chains.{near, row, headOf};
-use crate::key::key;
-use crate::key::last;
+use seats::key;
+use seats::last;
 
 // A number of two bytes as a wider one, with its bound.
 fn wide(x: u16) -> usize

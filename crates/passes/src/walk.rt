@@ -13,7 +13,6 @@ ghost use Rattle.lists.specs.ByLength.{entriesByLength};
 ghost use Rattle.passes.specs.Chains.{shown};
 ghost use Rattle.passes.specs.OnePass.{member};
 ghost use Rattle.passes.specs.OneWalk.{walkedOf};
-use crate::key::last;
 use crate::matching::Hits;
 use crate::matching::virtual_matches;
 use crate::search::head;
@@ -26,6 +25,7 @@ use lists::Rights;
 use masks::Tally;
 use masks::all_bits;
 use masks::entry_mask;
+use seats::last;
 
 // What the pass allows, and whether some entry that counts names S-1-3-4.
 pub struct Walked {

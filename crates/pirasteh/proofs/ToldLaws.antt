@@ -8,7 +8,7 @@ use Rattle.records.specs.Converters.{Conversion}
 use Rattle.tokens.specs.Answers.{answered}
 use Rattle.tokens.specs.declared.Converted.{Converted}
 use Rattle.access.specs.Reported.{Report, Lent}
-use Rattle.access.specs.declared.answer.Answer.{Answer}
+use Rattle.answers.specs.declared.answer.Answer.{Answer}
 use Rattle.access.specs.declared.answer.Traced.{Traced}
 use Rattle.masks.specs.KindsAndMasks.{asked}
 use Rattle.pirasteh.specs.Told.{Told, Handed}

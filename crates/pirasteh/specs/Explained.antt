@@ -4,7 +4,7 @@ use mathlib.Core.Path.{_≡_}
 use mathlib.Core.Bool.{cond}
 use lib.Dec.{eqb}
 use Rattle.masks.specs.KindsAndMasks.{asked}
-use Rattle.access.specs.declared.answer.Answer.{Answer}
+use Rattle.answers.specs.declared.answer.Answer.{Answer}
 use Rattle.pirasteh.specs.Told.{Told}
 
 -- a number that is told of a question with status 0, and 0 of a refused one

@@ -6,7 +6,7 @@ use mathlib.Core.Bool.{cond}
 use lib.ListN.{length}
 use lib.Seq.{sets}
 use Rattle.records.specs.Converters.{Conversion}
-use Rattle.access.specs.declared.answer.Answer.{Answer}
+use Rattle.answers.specs.declared.answer.Answer.{Answer}
 
 -- the result r, and the three lent numbers as the function leaves them: g, a and s. On refusal the answer's mask is 0 and its flags are clear
 pub record Told (answer : Answer) (r g a s : ℕ) : Type 0 where

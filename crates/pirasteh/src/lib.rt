@@ -5,12 +5,12 @@ ghost use mathlib.Core.Bool.{cond};
 ghost use lib.ListN.{length};
 ghost use Rattle.records.specs.Converters.{asListing, asRecord, fitted};
 ghost use Rattle.access.specs.Status.{checked};
-ghost use Rattle.access.specs.QuestionFile.{fileAnswer, fileDesires, fileReport};
+ghost use Rattle.questions.specs.QuestionFile.{fileAnswer, fileDesires, fileReport};
 ghost use Rattle.access.specs.Reported.{reportOf, inBuffer};
 ghost use Rattle.pirasteh.specs.Told.{Told, Handed};
 ghost use Rattle.pirasteh.specs.Explained.{ifAnswered, Shown, Explained};
 ghost use Rattle.pirasteh.specs.Followed.{Followed};
-use access::Answer;
+use answers::Answer;
 use lists::Rights;
 
 // 1 for yes and 0 for no.
@@ -71,7 +71,7 @@ pub extern "C" fn pirasteh_question(
     ensures { λ r. ⌜ Told (fileAnswer (now (file .entry))) r
         (now (granted .exit)) (now (allowed .exit)) (now (staged .exit)) ⌝ }
 {
-    let a = access::question(file);
+    let a = questions::question(file);
     tell(a, granted, allowed, staged)
 }
 
@@ -150,8 +150,8 @@ pub extern "C" fn pirasteh_why_question(
     ensures { λ r. ⌜ now (kind .exit) ≡ ifAnswered (fileAnswer (now (file .entry)) .status)
         (fileDesires (now (file .entry)) .kind) ⌝ }
 {
-    let a = access::question(file);
-    let d = access::desired_in(file);
+    let a = questions::question(file);
+    let d = questions::desired_in(file);
     *kind = if_answered(a.status, d.kind);
     *asked = if_answered(a.status, masks::asked(d.kind, d.mask).0);
     show(a, normal, confined, ruled);
@@ -204,7 +204,7 @@ pub extern "C" fn pirasteh_trail_question(
         (fileReport (now (file .entry)))) (now (trail .entry)) (now (trail .exit))
         (now (written .exit)) r (now (granted .exit)) (now (allowed .exit)) (now (staged .exit)) ⌝ }
 {
-    let t = access::trail_question(file, trail);
+    let t = questions::trail_question(file, trail);
     let a = t.answer;
     *written = t.length;
     tell(a, granted, allowed, staged)

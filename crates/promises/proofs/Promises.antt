@@ -1,11 +1,11 @@
 -- What is promised, in the request's own words, and where it is proved: each proof here is one line that cites the work.
 -- The words mean: `checked`, the answer to a question, with its four masks since request 106 (access/specs/Status.antt); `fileAnswer`,
--- that to a question file (QuestionFile.antt); since request 105 `reportOf` and `fileReport`, the same with the bytes of the trail,
--- `inBuffer n`, in a lent buffer of n bytes, `Lent`, what a call hands out (Reported.antt); `byRules`, the rules of document 01 with no
--- word on refusals, `eventsGiven`, the events of a question; `conditions`, the table of status numbers line by line, and `lowest`;
--- `trailConditions`, the same with 11 behind it; `Nothing`, neither right nor flag nor trail; `conversionInto`, what a converter comes to
--- in a buffer of so many bytes; `SameButStrangers`, `unnumbered`, `SameButOneRule` (demands/specs: Accepted, Conditions, Conversions,
--- Strangers, Trails). The dummies that demand 2 shuts out: cards/proofs/Dummies.antt. Assumes nothing.
+-- that to a question file (questions/specs/QuestionFile.antt); since request 105 `reportOf` and `fileReport`, the same with the bytes of
+-- the trail, `inBuffer n`, in a lent buffer of n bytes, `Lent`, what a call hands out (access/specs/Reported.antt); `byRules`, the rules
+-- of document 01 with no word on refusals, `eventsGiven`, the events of a question; `conditions`, the table of status numbers line by
+-- line, and `lowest`; `trailConditions`, the same with 11 behind it; `Nothing`, neither right nor flag nor trail; `conversionInto`, what
+-- a converter comes to in a buffer of so many bytes; `SameButStrangers`, `unnumbered`, `SameButOneRule` (demands/specs: Accepted,
+-- Conditions, Conversions, Strangers, Trails). The dummies that demand 2 shuts out: cards/proofs/Dummies.antt. Assumes nothing.
 use Prim.Native.Nat.{ℕ}
 use mathlib.Core.Path.{_≡_}
 use mathlib.Core.List.{List}
@@ -22,7 +22,7 @@ use Rattle.records.proofs.RoundTrip as round-trip
 use Rattle.masks.specs.KindsAndMasks.{asked}
 use Rattle.access.specs.Status.{Question, checked}
 use Rattle.access.specs.Reported.{reportOf, inBuffer, Lent}
-use Rattle.access.specs.QuestionFile.{questionOf, fileAnswer, fileReport}
+use Rattle.questions.specs.QuestionFile.{questionOf, fileAnswer, fileReport}
 use Rattle.access.specs.declared.answer.Traced.{Traced}
 use Rattle.pirasteh.specs.Told.{Handed}
 use Rattle.pirasteh.specs.Followed.{Followed}
@@ -40,10 +40,10 @@ use Rattle.demands.proofs.GainLaws as gain
 use Rattle.demands.proofs.TrailLaws as trails
 use Rattle.demands.proofs.FileTrailLaws as file-trail
 use Rattle.access.proofs.check as check
-use Rattle.access.proofs.question as question
-use Rattle.access.proofs.desired_in as desired-in
+use Rattle.questions.proofs.question as question
+use Rattle.questions.proofs.desired_in as desired-in
 use Rattle.access.proofs.trail as trail
-use Rattle.access.proofs.trail_question as trail-question
+use Rattle.questions.proofs.trail_question as trail-question
 use Rattle.tokens.proofs.to_listing as to-listing
 use Rattle.tokens.proofs.to_record as to-record
 use Rattle.pirasteh.proofs.pirasteh_check as c-check
@@ -57,9 +57,9 @@ use Rattle.pirasteh.proofs.pirasteh_pack as c-pack
 
 -- ---- Demand 1. "Whatever bytes arrive, it ends and touches nothing outside them."
 -- Of the functions themselves: for all lent bytes each ends, is safe, and returns and leaves what its contract says, an equation with the
--- definitions below. Contracts: access/src, `check`, `question`, `desired_in` (the kind and the mask of a file's question, request 106),
--- `trail` and `trail_question` (request 105);
--- tokens/src, `to_listing` and `to_record`; pirasteh/src, for C and Rust.
+-- definitions below. Contracts: access/src, `check` and `trail` (request 105); questions/src, `question`, `desired_in` (the kind and the mask
+-- of a file's question, request 106) and `trail_question` (request 105); tokens/src, `to_listing` and `to_record`; pirasteh/src, for C and
+-- Rust.
 pub functions-met : {M : Type 1} → check.Statement.statement M × question.Statement.statement M × desired-in.Statement.statement M
     × trail.Statement.statement M × trail-question.Statement.statement M × to-listing.Statement.statement M × to-record.Statement.statement M
 functions-met =

@@ -70,7 +70,7 @@ use Rattle.audit.specs.Trail.{trailBytes}
 use Rattle.access.specs.Status.{Question, byLists, raisedFor, checked}
 use Rattle.access.specs.Reported.{reportOf, inBuffer, Lent}
 use Rattle.access.specs.declared.answer.Traced.{Traced}
-use Rattle.access.specs.QuestionFile.{fileReport}
+use Rattle.questions.specs.QuestionFile.{fileReport}
 use Rattle.demands.specs.Accepted.{Accepted, tokenIn, eventsGiven}
 use Rattle.demands.specs.Conversions.{Written}
 use Rattle.demands.specs.Strangers.{known, struck, SameButOneRule}

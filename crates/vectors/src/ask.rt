@@ -1,6 +1,6 @@
 // Cases of a question.
 use crate::text::ends_with_number;
-use access::Answer;
+use answers::Answer;
 use lists::Rights;
 use testkit::NOWHERE;
 use testkit::after;
@@ -60,5 +60,5 @@ pub(crate) fn agrees(hex: &[u8], text: &[u8]) -> bool {
         return false;
     }
     let n = h.length;
-    is_told(text, access::question(&file[0..n]))
+    is_told(text, questions::question(&file[0..n]))
 }

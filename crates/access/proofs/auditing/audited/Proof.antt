@@ -16,7 +16,7 @@ use Rattle.passes.proofs.CrowdsLaws.{Alike}
 use Rattle.policy.specs.ByLengths.{rulesByLengths}
 use Rattle.audit.specs.Events.{eventsOf}
 use Rattle.audit.specs.Trail.{trailBytes}
-use Rattle.access.specs.Granted.{flagged}
+use Rattle.answers.specs.Granted.{flagged}
 use Rattle.access.specs.Evaluating.{crowdIn}
 use Rattle.access.proofs.EvaluatingSteps.{crowd-shown}
 use Rattle.access.proofs.AuditingSteps.{sought-made, noted-short, noted-fits, raised-shown, trail-shown, report-unlent, report-short}

@@ -4,7 +4,7 @@ use Prim.Native.Nat.{ℕ, _<_}
 use mathlib.Core.Path.{_≡_, sym, ap, _∙_}
 use native.Mathlib.Omega.{arith}
 use lib.ListN.{length, getD}
-use Rattle.passes.specs.Key.{keyOf}
+use Rattle.seats.specs.Key.{keyOf}
 use Rattle.passes.proofs.ChainsLaws.{head-past, head-within}
 use borrow.Author.Needs.{needs}
 use Rattle.passes.proofs.search.head.Statement.{statement}

@@ -1,0 +1,2 @@
+-- the masks that are left, and what is granted, allowed and staged
+pub mod Granted
