@@ -92,7 +92,8 @@ module _ (q : Question) (f : Findings) (e : f ≡ findingsFor q) (z : f .status 
 
   -- ---- the ways out
 
-  module _ (lent : Bool) (n : ℕ) (before after : List ℕ) (told : Traced) (a : Answer) (read : a ≡ answerOf (q .kind) (q .mask) (f .found)) where
+  module _ (lent : Bool) (n : ℕ) (before after : List ℕ) (told : Traced) (a : Answer)
+      (read : a ≡ answerOf (q .kind) (q .mask) (f .found)) where
     pub lent-unasked : (f .found .«has_staged_sacl» || (lent && (ltb (f .sacl .from) (f .sacl .to) || f .found .«has_sacl»))) ≡ false →
         told .answer ≡ a → told .length ≡ 0 → after ≡ before → Lent (inBuffer n (lending lent (reportPast q))) before after told
     lent-unasked none is zero same =

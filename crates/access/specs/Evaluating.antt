@@ -1,4 +1,4 @@
--- What the evaluation finds, read from the bytes of a flat listing: `foundOf` of Granted, with the token in its listing (EvaluatingLaws,
+-- What the evaluation finds, read from the bytes of a flat listing: `foundOf` of Evaluated, with the token in its listing (EvaluatingLaws,
 -- `found-listed`). The confinement identity stands at a place that the reader of tokens names.
 use Prim.Native.Nat.{ℕ, _<_, _≤_}
 use mathlib.Core.List.{List}

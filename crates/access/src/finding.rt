@@ -51,7 +51,7 @@ fn standing_number(v: Standing) -> u32
     }
 }
 
-// The bytes of an extent that lies inside.
+// The bytes of an extent that lies inside: what `lists::part` gives, and no test.
 fn cut(d: &[u8], x: Extent) -> &[u8]
     requires { ⌜ descriptor.LiesIn (length (now d)) x ⌝ }
     ensures { λ r. ⌜ now r ≡ part (now (d .entry)) (x .from) (x .to) ⌝ }

@@ -1,5 +1,5 @@
-// The check: the only door to it. What it relies on of identities, lists, tokens, passes and policies is
-// what those crates promise.
+// The check: the only door to it. What it relies on of identities, lists, tokens, passes, policies,
+// audits and answers is what those crates promise.
 mod answer;
 mod answering;
 mod auditing;

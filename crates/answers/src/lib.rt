@@ -1,5 +1,5 @@
-// Answers: what the evaluation finds for a kind, and what is read off it for a mask. Knows nothing of
-// tokens, lists and policies.
+// Answers: what an evaluation finds for a kind, and what is read off it for a mask. Of lists only
+// the type of a rights mask is known here, and nothing of tokens and policies.
 mod answer;
 
 pub use answer::Answer;

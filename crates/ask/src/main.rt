@@ -1,8 +1,9 @@
 // `ask FILE` prints the answer to the question in a file; with `-`, or without an argument, it
 // reads standard input. `ask why FILE` prints the same line and then the four masks, a line each;
 // `ask trail FILE` the same line and then the events of the audit trail, a line each. What answer
-// and trail are, refusals included, is for `access::question` and `access::trail_question` to say. A
-// write that fails is said on standard error; the language has no exit status to say it with.
+// and trail are, refusals included, is for `questions::question` and `questions::trail_question`
+// to say. A write that fails is said on standard error; the language has no exit status to say it
+// with.
 use answers::Answer;
 use libc::STDERR_FILENO;
 use libc::STDIN_FILENO;

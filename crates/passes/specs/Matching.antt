@@ -26,6 +26,7 @@ hitBy allow deny = record { allow = allow; deny = deny }
 abbrev pub hitsBy : Hit → Hit → Hits
 hitsBy owner self = record { owner = owner; me = self }
 
+-- nobody stands in, for allow and for deny
 abbrev pub nobody : Hit
 nobody = hitBy false false
 

@@ -1,6 +1,6 @@
-// Matching, and one pass over a list. Lists are read through `lists` alone. Of a
-// token only its flat listing is known: identities with their attribute words, in place. Which
-// tokens are refused, and how a listing is made, is not known here.
+// Matching, and one pass over a list. Lists are read through `lists` alone, and of a token only its
+// flat listing, through `seats`. Which tokens are refused, and how a listing is made, is not known
+// here.
 mod chains;
 mod evaluation;
 mod matching;

@@ -23,8 +23,8 @@ pub struct Hits {
     pub me: Hit,
 }
 
-// Whether a SID matches one of those from a seat on: seat by seat, along its chain, and down the row
-// from where the chain goes on nearby.
+// Whether a SID matches one of the chain that begins with the seat of a number; with 0 there is
+// none. Seat by seat along the chain, and down the row from where it goes on nearby.
 pub(crate) fn search_chain(
     listing: &[u8],
     seats: &[u64],

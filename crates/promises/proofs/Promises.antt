@@ -57,9 +57,9 @@ use Rattle.pirasteh.proofs.pirasteh_pack as c-pack
 
 -- ---- Demand 1. "Whatever bytes arrive, it ends and touches nothing outside them."
 -- Of the functions themselves: for all lent bytes each ends, is safe, and returns and leaves what its contract says, an equation with the
--- definitions below. Contracts: access/src, `check` and `trail` (request 105); questions/src, `question`, `desired_in` (the kind and the mask
--- of a file's question, request 106) and `trail_question` (request 105); tokens/src, `to_listing` and `to_record`; pirasteh/src, for C and
--- Rust.
+-- definitions below. Contracts: access/src, `check` and `trail` (request 105); questions/src, `question`, `desired_in` (the kind and the
+-- mask of a file's question, request 106) and `trail_question` (request 105); tokens/src, `to_listing` and `to_record`; pirasteh/src, for
+-- C and Rust.
 pub functions-met : {M : Type 1} → check.Statement.statement M × question.Statement.statement M × desired-in.Statement.statement M
     × trail.Statement.statement M × trail-question.Statement.statement M × to-listing.Statement.statement M × to-record.Statement.statement M
 functions-met =

@@ -1,2 +1,2 @@
 -- The laws that the proofs of the functions lean on.
-pub mod FileSteps
+mod FileSteps

@@ -38,6 +38,7 @@ fn spread(x: u64) -> usize
     ((low * 1640531527 + high * 1013904223) / 8388608 % 512) as usize
 }
 
+// The key of a SID: one of 512, from all its words.
 pub fn key(w: &[u8]) -> usize
     ensures { λ r. ⌜ r ≡ keyOf (now (w .entry)) ⌝ }
     ensures { λ r. ⌜ r < 512 ⌝ }

@@ -1,5 +1,5 @@
-// A token's flat listing read in place, seat by seat, and the key of a SID by which seats are found.
-// Knows nothing of lists, and of tokens only their listings.
+// A token's flat listing read in place, seat by seat, with the attribute words of groups, and the
+// key of a SID by which seats are found. Of tokens only their listings are known here, and no lists.
 mod keys;
 mod seats;
 

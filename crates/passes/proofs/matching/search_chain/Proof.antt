@@ -1,5 +1,5 @@
--- `search_chain` meets its contract. The invariant: the chain from this number on, or the row from it down, has the SID where the chain from the
--- first seat on has it; the measure is the number. Assumes nothing.
+-- `search_chain` meets its contract. The invariant: the chain from this number on, or the row from it down, has the SID where the chain
+-- from the first seat on has it; the measure is the number. Assumes nothing.
 use Prim.Native.Nat.{ℕ, suc, _-_, _≤_}
 use mathlib.Core.Bool.{Bool, true, false, cond, _||_, or-true, or-false}
 use mathlib.Core.List.{List}
@@ -56,10 +56,11 @@ turned c =
     (c .before .before .before .before .before .before .before .loop .down)))
     (c .if3 .came)
 
--- the seat is not the SID's
+-- where the loop's turn began, with what was handed in
 abbrev args-at : tie.Joined3 Inv-loop μ-loop → tie.Start Inv-loop μ-loop
 args-at c = c .before .before .before .before .before .before .before .before .before .before .before .before
 
+-- the seat is not the SID's
 stepped : (c : tie.Joined3 Inv-loop μ-loop) (down : Bool) → c .if3 .down ≡ down →
     let a = args-at c .args in
     let n = c .before .before .before .before .before .before .before .loop .n in
@@ -74,7 +75,8 @@ stepped c down e =
     l .inv .1
     ∙ miss (a .allow) (a .seats .now) (a .listing .now) (a .w .now) (l .n) (l .n - 1) _
     (omega (arith, c .before .before .before .before .before .before .if1 .left)) refl
-    (l .down) (c .before .is-near .result) after (sym (c .before .before .before .before .sits .ensures) ∙ c .before .before .before .if2 .left)
+    (l .down) (c .before .is-near .result) after
+    (sym (c .before .before .before .before .sits .ensures) ∙ c .before .before .before .if2 .left)
     (c .before .before .next .ensures .0) (c .before .is-near .ensures)
     ∙ ap (λ (b : Bool). among (a .allow) (cond b (row (a .seats .now) (a .listing .now) (l .n - 1))
     (chain (a .seats .now) (a .listing .now) after after)) (a .w .now)) (sym (turned c) ∙ e)
@@ -145,7 +147,8 @@ loop-again-2 c =
     let a = args-at (c .before) .args in (
       omega (arith, less, l .inv .0),
       stepped (c .before) false (c .if4 .left)
-          ∙ ap (Left (a .allow) (a .seats .now) (a .listing .now) (a .w .now) (c .before .before .before .next .result)) (sym (c .if4 .left)),
+          ∙ ap (Left (a .allow) (a .seats .now) (a .listing .now) (a .w .now) (c .before .before .before .next .result))
+          (sym (c .if4 .left)),
     )
 
 pub search-chain-spec : {M : Type 1} → statement M
