@@ -27,7 +27,7 @@ use Rattle.records.specs.TokenRecord.{read_record}
 use Rattle.records.specs.TokenRules.{keeps}
 use Rattle.records.specs.FlatListing.{flat_writer, listing_of}
 use Rattle.records.specs.Crowd.{plain, shown, crowd_at, confined_place}
-use Rattle.records.specs.Converters.{converted, result, refusal, as_listing}
+use Rattle.records.specs.Converters.{converted, full_result, refusal, as_listing}
 use Rattle.tokens.specs.Judging.{judged_of}
 use Rattle.tokens.specs.declared.flat.Extent.{Extent}
 use Rattle.tokens.specs.declared.judging.Judged.{Judged}
@@ -91,8 +91,8 @@ held s r room o z = go (read_record s) refl (sym z ∙ o.status) o.bytes o.place
     go none e q b p = absurd (omega arith)
     go (some t end) e q b p = by (keeps t) refl q b p
       where
-        by : (k : Bool) → keeps t ≡ k → ◌≡◌ {A = ℕ} 0 (cond k (result (listing_of t)) (refusal 4)).status →
-            take r.length room ≡ (cond k (result (listing_of t)) (refusal 4)).bytes →
+        by : (k : Bool) → keeps t ≡ k → ◌≡◌ {A = ℕ} 0 (cond k (full_result (listing_of t)) (refusal 4)).status →
+            take r.length room ≡ (cond k (full_result (listing_of t)) (refusal 4)).bytes →
             r.confined_at ≡ (cond k (sound t) unsound).confined_at → Held s r room
         by true f q' b' p' = record { token = t; end = end; read = e; kept = f; bytes = b'; place = p' }
         by false f q' b' p' = absurd (omega arith)
@@ -106,7 +106,7 @@ token_refused kind s self d p r room o n = go (read_record s) refl o.status
     go none e q = rw q (findings-misshapen kind s self d p e)
     go (some t end) e q = by (keeps t) refl q
       where
-        by : (k : Bool) → keeps t ≡ k → r.status ≡ (cond k (result (listing_of t)) (refusal 4)).status →
+        by : (k : Bool) → keeps t ≡ k → r.status ≡ (cond k (full_result (listing_of t)) (refusal 4)).status →
             findings_of kind s self d p ≡ stopped r.status
         by true f q' = absurd (n q')
         by false f q' = rw q' (findings-broken kind s self d p t end e f)

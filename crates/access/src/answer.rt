@@ -10,7 +10,7 @@ use masks::Tally;
 
 // The page's status number (0, or 3 to 10), and what was found; for the audit how long the token's
 // listing is, and where the descriptor's owner and SACL stand. All 0 and false on refusal.
-#[derive(Drop)]
+#[derive(Clone, Copy)]
 pub struct Findings {
     pub status: u32,
     pub found: Found,
@@ -20,7 +20,7 @@ pub struct Findings {
 }
 
 // An answer, and how long its trail is in the buffer that was lent.
-#[derive(Drop)]
+#[derive(Clone, Copy)]
 pub struct Traced {
     pub answer: Answer,
     pub length: usize,

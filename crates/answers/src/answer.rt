@@ -8,7 +8,7 @@ use masks::Tally;
 // The bits after normal evaluation, after confinement and after policy, those on which a rule's
 // effective and staged results differ, and whether a rule that applies has an effective SACL, and a
 // staged one. It does not depend on the desired mask.
-#[derive(Drop)]
+#[derive(Clone, Copy)]
 pub struct Found {
     pub normal: Rights,
     pub confined: Rights,
@@ -20,7 +20,7 @@ pub struct Found {
 
 // The page's status number; of the asked bits those after normal evaluation, after confinement and
 // after policy, and those granted; allowed yes or no, and the staging flag.
-#[derive(Drop)]
+#[derive(Clone, Copy)]
 pub struct Answer {
     pub status: u32,
     pub normal: Rights,

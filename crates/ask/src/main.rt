@@ -9,7 +9,7 @@ use libc::{STDERR_FILENO, STDIN_FILENO, STDOUT_FILENO};
 use lists::Rights;
 
 // What is asked of the question.
-#[derive(Drop)]
+#[derive(Clone, Copy)]
 enum Task {
     Ask,
     Why,
@@ -67,7 +67,7 @@ fn print_steps(a: Answer) -> bool {
 }
 
 // An event of a trail, with the place after it; ok is false where there is none.
-#[derive(Drop)]
+#[derive(Clone, Copy)]
 struct Event {
     ok: bool,
     source: u64,

@@ -6,7 +6,7 @@ use lists::Rights;
 
 // An entry as the code reads it: whether it is an audit entry, and then its flags, its mask as
 // stored and where its SID stands. `next` is the place after the entry, 0 where none stands.
-#[derive(Drop)]
+#[derive(Clone, Copy)]
 pub struct Spot {
     pub audits: bool,
     pub flags: u8,

@@ -9,7 +9,7 @@ use passes::Hits;
 
 // What an event must concern: the object kind, the explicit bits of the question, and its final
 // allowed answer.
-#[derive(Drop)]
+#[derive(Clone, Copy)]
 pub struct Sought {
     pub kind: u32,
     pub bits: Rights,

@@ -11,7 +11,7 @@ use crate::putting::{put_list, put_rules};
 use passes::Hits;
 
 // Whether a trail fits the buffer lent for it, and then its length; else 0.
-#[derive(Drop)]
+#[derive(Clone, Copy)]
 pub struct Trail {
     pub fits: bool,
     pub length: usize,

@@ -11,7 +11,7 @@ use passes::Hits;
 
 // An entry that fires: its number, its mask as stored, and the place after it. All 0 where none is
 // found.
-#[derive(Drop)]
+#[derive(Clone, Copy)]
 pub struct Fired {
     pub found: bool,
     pub entry: u32,

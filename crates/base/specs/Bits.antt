@@ -1,5 +1,5 @@
 -- Masks of 32 bits. Definitions compute with `and`, `or` and `flip`; laws speak of each bit.
-use Rattle.std.specs.Prelude.{ℕ, zero, suc, ◌+◌, ◌-◌, ◌*◌, ◌/◌, ◌%◌, ◌^◌, ◌≡◌, Bool, true, false, not, eqb}
+use Rattle.std.specs.Prelude.{ℕ, ◌-◌, ◌/◌, ◌%◌, ◌^◌, ◌≡◌, Bool, true, not, eqb}
 use Rattle.std.specs.Int.Bits as bits
 
 abbrev pub and : ℕ → ℕ → ℕ

@@ -1,5 +1,7 @@
 // Bytes by place and numbers in sevens, read from lent bytes; tests put together. Knows nothing of
 // identities, lists or tokens.
+#![tactic(auto)]
+
 mod bools;
 mod bytes;
 mod sevens;

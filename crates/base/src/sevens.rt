@@ -8,7 +8,7 @@ ghost use Rattle.base.specs.Sevens.{number, num_of, within};
 use crate::bytes::wide;
 
 // A number with the place after it; where there is none, ok is false and both are 0.
-#[derive(Drop)]
+#[derive(Clone, Copy)]
 pub struct Num {
     pub ok: bool,
     pub value: u64,

@@ -6,7 +6,7 @@ use mathlib.Core.Bool.{true, false}
 use Rattle.base.specs.Bits.{bit}
 use Rattle.records.specs.Token.{Token, unconfined}
 use Rattle.records.specs.FlatListing.{listing_of}
-use Rattle.records.specs.Converters.{as_listing, fitted, refusal, result}
+use Rattle.records.specs.Converters.{as_listing, fitted, refusal, full_result}
 use Rattle.answers.specs.Granted.{refused}
 use Rattle.access.specs.Status.{checked}
 use Rattle.questions.specs.QuestionFile.{file_answer}
@@ -73,6 +73,6 @@ pub short_buffer : fitted 31 (as_listing TU) ≡ refusal 11
 unfolding the_page
 short_buffer = refl
 
-pub room_enough : fitted 32 (as_listing TU) ≡ result (listing_of token_tU)
+pub room_enough : fitted 32 (as_listing TU) ≡ full_result (listing_of token_tU)
 unfolding the_page
 room_enough = refl

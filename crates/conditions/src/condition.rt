@@ -12,7 +12,7 @@ use crate::scan::Scan;
 use crate::stack::{Step, answered, ended, negated, paired, push};
 
 // What an expression comes to: a fault, or its truth.
-#[derive(Drop)]
+#[derive(Clone, Copy)]
 pub enum Outcome {
     Broken,
     Foreign,

@@ -3,7 +3,7 @@ ghost use Rattle.std.specs.Prelude.{◌≡◌};
 ghost use Rattle.conditions.specs.Scanning.{is_broken, is_foreign};
 
 // Something misshapen; something well shaped that is not read here; or neither.
-#[derive(Drop)]
+#[derive(Clone, Copy)]
 pub enum Scan {
     Broken,
     Foreign,

@@ -8,7 +8,7 @@ ghost use Rattle.conditions.specs.Stack.{word_of, bit_of, combine, Pushes, Steps
 use crate::condition::Outcome;
 
 // The operands, and where the latest stands if it is a list; else 0 and 0.
-#[derive(Drop)]
+#[derive(Clone, Copy)]
 pub struct Stack {
     pub word: u64,
     pub from: usize,
@@ -16,7 +16,7 @@ pub struct Stack {
 }
 
 // What one token comes to: a fault, or the place after it and the operands then.
-#[derive(Drop)]
+#[derive(Clone, Copy)]
 pub enum Step {
     Broken,
     Foreign,

@@ -18,7 +18,7 @@ use Rattle.records.specs.Token.{Token}
 use Rattle.records.specs.TokenRules.{keeps}
 use Rattle.records.specs.TokenRecord.{read_record, record_of}
 use Rattle.records.specs.FlatListing.{read_listing, listing_of}
-use Rattle.records.specs.Converters.{Conversion, refusal, result, converted, as_listing, as_record, fitted}
+use Rattle.records.specs.Converters.{Conversion, refusal, full_result, converted, as_listing, as_record, fitted}
 use Rattle.pirasteh.specs.Told.{Handed}
 use Rattle.demands.specs.Conditions.{◌when◌, lowest, misshapen, breaks}
 use Rattle.demands.specs.Conversions.{Way, conversion, conversion_into, conversion_conditions, Written, Untouched}
@@ -38,13 +38,13 @@ module _ (room : ℕ) (f : Token → List ℕ) where
   converted_status none = rw (none_long room)
   converted_status (some t end) = go (keeps t)
     where
-      whole : (b : Bool) → (cond b (refusal 11) (result (f t))).status ≡ cond b 11 0
+      whole : (b : Bool) → (cond b (refusal 11) (full_result (f t))).status ≡ cond b 11 0
       whole true = refl
       whole false = refl
 
       go : (b : Bool) →
-          (fitted room (cond b (result (f t)) (refusal 4))).status
-          ≡ lowest ((3 when false) ∷ (4 when not b) ∷ (11 when ltb room (length (cond b (result (f t)) (refusal 4)).bytes)) ∷ [])
+          (fitted room (cond b (full_result (f t)) (refusal 4))).status
+          ≡ lowest ((3 when false) ∷ (4 when not b) ∷ (11 when ltb room (length (cond b (full_result (f t)) (refusal 4)).bytes)) ∷ [])
       go true = whole (ltb room (length (f t)))
       go false = rw (none_long room)
 
@@ -53,12 +53,12 @@ module _ (room : ℕ) (f : Token → List ℕ) where
   converted_refused none h = rw (none_long room)
   converted_refused (some t end) h = go (keeps t) h
     where
-      whole : (b : Bool) → ((cond b (refusal 11) (result (f t))).status ≡ 0 → ⊥) → (cond b (refusal 11) (result (f t))).bytes ≡ []
+      whole : (b : Bool) → ((cond b (refusal 11) (full_result (f t))).status ≡ 0 → ⊥) → (cond b (refusal 11) (full_result (f t))).bytes ≡ []
       whole true h = refl
       whole false h = absurd (h refl)
 
-      go : (b : Bool) → ((fitted room (cond b (result (f t)) (refusal 4))).status ≡ 0 → ⊥) →
-          (fitted room (cond b (result (f t)) (refusal 4))).bytes ≡ []
+      go : (b : Bool) → ((fitted room (cond b (full_result (f t)) (refusal 4))).status ≡ 0 → ⊥) →
+          (fitted room (cond b (full_result (f t)) (refusal 4))).bytes ≡ []
       go true h = whole (ltb room (length (f t))) h
       go false h = rw (none_long room)
 

@@ -9,13 +9,13 @@ use conditions::{Scan, is_broken, is_foreign};
 use sids::sid_end;
 
 // A rights mask. A group's attribute word is another type, so that the two cannot change places.
-#[derive(Drop)]
+#[derive(Clone, Copy)]
 pub struct Rights(pub u32);
 
 // An allow, deny or callback entry: its SID stands from `from` to `to`, and `next` is the place
 // after the entry. Between the two stands the condition of a callback entry, or spare bytes of
 // another, or nothing. All 0 where no such entry stands.
-#[derive(Drop)]
+#[derive(Clone, Copy)]
 pub struct Ace {
     pub kind: u8,
     pub flags: u8,

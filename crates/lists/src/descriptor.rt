@@ -10,7 +10,7 @@ use conditions::Scan;
 use sids::sid_end;
 
 // What a descriptor is; the page's numbers are 0, 6, 7 and 8.
-#[derive(Drop)]
+#[derive(Clone, Copy)]
 pub enum Verdict {
     Whole,
     Misshapen,
@@ -19,7 +19,7 @@ pub enum Verdict {
 }
 
 // A part that an offset names: misshapen, not there, there, or a list with something foreign.
-#[derive(Drop)]
+#[derive(Clone, Copy)]
 pub enum Piece {
     Bad,
     Absent,
@@ -28,14 +28,14 @@ pub enum Piece {
 }
 
 // From a place up to another; empty where both are 0.
-#[derive(Drop)]
+#[derive(Clone, Copy)]
 pub struct Extent {
     pub from: usize,
     pub to: usize,
 }
 
 // The verdict and where each part stands. `null`: the DACL is absent. A refusal has empty parts.
-#[derive(Drop)]
+#[derive(Clone, Copy)]
 pub struct Parts {
     pub verdict: Verdict,
     pub null: bool,

@@ -4,7 +4,7 @@ ghost use Rattle.masks.specs.TheTally.{emptied, allowing, denying, stepped, idle
 
 use lists::Rights;
 
-#[derive(Drop)]
+#[derive(Clone, Copy)]
 pub struct Tally {
     pub decided: Rights,
     pub allowed: Rights,

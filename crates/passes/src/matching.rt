@@ -8,14 +8,14 @@ use crate::search::{head, is_near, next, sits};
 use seats::last;
 
 // How an identity stands in for a virtual one, for allow and for deny.
-#[derive(Drop)]
+#[derive(Clone, Copy)]
 pub struct Hit {
     pub allow: bool,
     pub deny: bool,
 }
 
 // How the owner and the self identity match.
-#[derive(Drop)]
+#[derive(Clone, Copy)]
 pub struct Hits {
     pub owner: Hit,
     pub me: Hit,

@@ -18,7 +18,7 @@ use masks::{Tally, all_bits, entry_mask};
 use seats::last;
 
 // What the pass allows, and whether some entry that counts names S-1-3-4.
-#[derive(Drop)]
+#[derive(Clone, Copy)]
 pub struct Walked {
     pub allowed: Rights,
     pub named: bool,

@@ -8,7 +8,7 @@ use conditions::{Scan, is_broken, is_foreign};
 
 // A rule: the place after it (0: misshapen), whether it holds what is not read in this edition, and
 // where its five sections stand.
-#[derive(Drop)]
+#[derive(Clone, Copy)]
 pub struct Rule {
     pub next: usize,
     pub unread: bool,

@@ -15,7 +15,7 @@ use passes::Hits;
 
 // The bits left, those on which effective and staged results differ, and whether a rule that
 // applies has an effective SACL, and a staged one.
-#[derive(Drop)]
+#[derive(Clone, Copy)]
 pub struct Ruled {
     pub left: Rights,
     pub differ: Rights,

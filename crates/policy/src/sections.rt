@@ -7,7 +7,7 @@ ghost use Rattle.policy.specs.Policy.{maybe_acl, applies_section};
 use conditions::Scan;
 
 // The bytes of a section, from a place up to another; both 0 where they do not fit.
-#[derive(Drop)]
+#[derive(Clone, Copy)]
 pub struct Section {
     pub from: usize,
     pub to: usize,

@@ -5,7 +5,7 @@ ghost use Rattle.policy.specs.Policy.{rules_shaped, rules_unread, standing, stan
 use crate::one_rule::rule_at;
 
 // What a policy is; the page's numbers are 0, 9 and 10.
-#[derive(Drop)]
+#[derive(Clone, Copy)]
 pub enum Standing {
     Sound,
     Misshapen,

@@ -17,7 +17,7 @@ use lib.Dec.{T}
 use lib.Pow.{are_bytes}
 use Rattle.base.specs.Bits.{Within}
 use Rattle.base.specs.Bytes.Read.{some}
-use Rattle.records.specs.Converters.{as_listing, as_record, result}
+use Rattle.records.specs.Converters.{as_listing, as_record, full_result}
 use Rattle.records.proofs.RoundTrip as round_trip
 use Rattle.masks.specs.KindsAndMasks.{asked}
 use Rattle.access.specs.Status.{Question, checked}
@@ -165,10 +165,10 @@ pub granted_in_asked : (q : Question) → Within (checked q).granted.0 (asked q.
 granted_in_asked = status.granted_asked
 
 -- "Token records convert to the flat listing and back exactly." What `pirasteh_list` and `pirasteh_pack` write: the result's bytes, no more
-pub there_and_back : (s l : List ℕ) → T (are_bytes s) → as_listing s ≡ result l → as_record l ≡ result s
+pub there_and_back : (s l : List ℕ) → T (are_bytes s) → as_listing s ≡ full_result l → as_record l ≡ full_result s
 there_and_back = round_trip.there_and_back
 
-pub back_and_there : (l s : List ℕ) → T (are_bytes l) → as_record l ≡ result s → as_listing s ≡ result l
+pub back_and_there : (l s : List ℕ) → T (are_bytes l) → as_record l ≡ full_result s → as_listing s ≡ full_result l
 back_and_there = round_trip.back_and_there
 
 pub written : (way : Way) (s before after : List ℕ) (n r : ℕ) → Handed (conversion_into (length before) way s) before after n r → r ≡ 0 →

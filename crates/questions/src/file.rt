@@ -11,7 +11,7 @@ use answers::Answer;
 use lists::Rights;
 
 // A part of the file, from a place up to another; both 0 where none stands.
-#[derive(Drop)]
+#[derive(Clone, Copy)]
 pub struct Blob {
     pub ok: bool,
     pub from: usize,
@@ -19,7 +19,7 @@ pub struct Blob {
 }
 
 // The kind and the mask, and where the other parts stand; all 0 where the file is misshapen.
-#[derive(Drop)]
+#[derive(Clone, Copy)]
 pub struct Places {
     pub ok: bool,
     pub kind: u32,
@@ -31,7 +31,7 @@ pub struct Places {
 }
 
 // What a question desires: the kind and the mask, and nothing of the rest.
-#[derive(Drop)]
+#[derive(Clone, Copy)]
 pub struct Desired {
     pub kind: u32,
     pub mask: Rights,

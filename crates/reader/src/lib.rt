@@ -11,14 +11,14 @@ ghost use Rattle.base.specs.Bytes.{u16_at};
 use lists::{Ace, Extent};
 
 // What stands at a place of a list: one of its entries with a SID, or the end.
-#[derive(Drop)]
+#[derive(Clone, Copy)]
 pub enum Step {
     Entry(Ace),
     End,
 }
 
 // The list that it was opened on, up to its last entry, and its place in that list.
-#[derive(Drop)]
+#[derive(Clone, Copy)]
 pub struct Entries<'a> {
     pub list: &'a [u8],
     pub at: usize,

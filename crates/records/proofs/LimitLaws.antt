@@ -20,7 +20,7 @@ use Rattle.records.specs.Shaped.{Identity, Shaped}
 use Rattle.records.specs.FlatListing.{read_listing, listing_of, flat_writer}
 use Rattle.records.specs.TokenRecord.{read_record, record_of, pack_identity, packed_writer, packed_words}
 use Rattle.records.specs.TokenRules.{all_restricted, keeps}
-use Rattle.records.specs.Converters.{as_listing, as_record, result}
+use Rattle.records.specs.Converters.{as_listing, as_record, full_result}
 use Rattle.records.proofs.RoundTrip.{record_form, listing_form, accepted}
 use Rattle.records.proofs.LengthLaws.{Widths, Longest, each-short, fields-short, accepted-short}
 use Rattle.records.proofs.RecordLaws.{words_at, words_packed, words_fit, length_words}
@@ -105,14 +105,14 @@ accepted_record_short t o e =
 
 -- ---- what a converter gives
 
-pub as_listing_short : (s l : List ℕ) → T (are_bytes s) → as_listing s ≡ result l → length l ≤ 22888
+pub as_listing_short : (s l : List ℕ) → T (are_bytes s) → as_listing s ≡ full_result l → length l ≤ 22888
 unfolding as_listing
 as_listing_short s l b e =
     let a = accepted listing_of (read_record s) l e in
     let f = record_form s a.token a.end b a.read in
     rw (← a.written) (accepted_listing_short a.token f.1 a.kept)
 
-pub as_record_short : (l s : List ℕ) → T (are_bytes l) → as_record l ≡ result s → length s ≤ 27942
+pub as_record_short : (l s : List ℕ) → T (are_bytes l) → as_record l ≡ full_result s → length s ≤ 27942
 unfolding as_record
 as_record_short l s b e =
     let a = accepted record_of (read_listing l) s e in

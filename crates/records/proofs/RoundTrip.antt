@@ -24,7 +24,7 @@ use Rattle.records.specs.Fields.{fields_at, fields_bytes}
 use Rattle.records.specs.FlatListing.{read_listing, listing_of, flat_reader, flat_writer}
 use Rattle.records.specs.TokenRecord.{read_record, record_of, packed_reader, packed_writer}
 use Rattle.records.specs.TokenRules.{keeps}
-use Rattle.records.specs.Converters.{Conversion, converted, result, refusal, as_listing, as_record}
+use Rattle.records.specs.Converters.{Conversion, converted, full_result, refusal, as_listing, as_record}
 use Rattle.records.proofs.FieldsLaws.{fields-kept}
 use Rattle.records.proofs.ListingLaws.{flat_format}
 use Rattle.records.proofs.RecordLaws.{number_32, packed_format}
@@ -88,42 +88,42 @@ pub record Accepted (f : Token → List ℕ) (r : Read Token) (bs : List ℕ) : 
   pub kept : keeps token ≡ true
   pub written : f token ≡ bs
 
-pub accepted : (f : Token → List ℕ) (r : Read Token) (bs : List ℕ) → converted f r ≡ result bs → Accepted f r bs
+pub accepted : (f : Token → List ℕ) (r : Read Token) (bs : List ℕ) → converted f r ≡ full_result bs → Accepted f r bs
 accepted f none bs e = let z : ◌≡◌ {A = ℕ} 3 0 = ap (λ (c : Conversion). c.status) e in absurd (omega arith)
 accepted f (some t n) bs e = go (keeps t) refl e
   where
-    go : (u : Bool) → keeps t ≡ u → cond u (result (f t)) (refusal 4) ≡ result bs → Accepted f (some t n) bs
+    go : (u : Bool) → keeps t ≡ u → cond u (full_result (f t)) (refusal 4) ≡ full_result bs → Accepted f (some t n) bs
     go true k q = record { token = t; end = n; read = refl; kept = k; written = ap (λ (c : Conversion). c.bytes) q }
     go false k q = let z : ◌≡◌ {A = ℕ} 4 0 = ap (λ (c : Conversion). c.status) q in absurd (omega arith)
 
 -- and the other way: what is read of a token that keeps the rules is converted
 pub converted_kept : (f : Token → List ℕ) (r : Read Token) (t : Token) (n : ℕ) → r ≡ some t n → keeps t ≡ true →
-    converted f r ≡ result (f t)
+    converted f r ≡ full_result (f t)
 converted_kept f r t n e k = rw (e, k)
 
-pub there_and_back : (s l : List ℕ) → T (are_bytes s) → as_listing s ≡ result l → as_record l ≡ result s
+pub there_and_back : (s l : List ℕ) → T (are_bytes s) → as_listing s ≡ full_result l → as_record l ≡ full_result s
 unfolding as_listing as_record
 there_and_back s l b e =
     let a = accepted listing_of (read_record s) l e in
     let f = record_form s a.token a.end b a.read in
     let r : read_listing l ≡ some a.token (length (listing_of a.token)) =
     ap read_listing (sym a.written) ∙ listing_back a.token f.1 in
-    converted_kept record_of (read_listing l) a.token (length (listing_of a.token)) r a.kept ∙ ap result (sym f.0)
+    converted_kept record_of (read_listing l) a.token (length (listing_of a.token)) r a.kept ∙ ap full_result (sym f.0)
 
-pub back_and_there : (l s : List ℕ) → T (are_bytes l) → as_record l ≡ result s → as_listing s ≡ result l
+pub back_and_there : (l s : List ℕ) → T (are_bytes l) → as_record l ≡ full_result s → as_listing s ≡ full_result l
 unfolding as_listing as_record
 back_and_there l s b e =
     let a = accepted record_of (read_listing l) s e in
     let f = listing_form l a.token a.end b a.read in
     let r : read_record s ≡ some a.token (length (record_of a.token)) =
     ap read_record (sym a.written) ∙ record_back a.token f.1 in
-    converted_kept listing_of (read_record s) a.token (length (record_of a.token)) r a.kept ∙ ap result (sym f.0)
+    converted_kept listing_of (read_record s) a.token (length (record_of a.token)) r a.kept ∙ ap full_result (sym f.0)
 
 -- so no two records have one listing, and no two listings one record
-pub as_listing_inj : (s s' l : List ℕ) → T (are_bytes s) → T (are_bytes s') → as_listing s ≡ result l → as_listing s' ≡ result l → s ≡ s'
+pub as_listing_inj : (s s' l : List ℕ) → T (are_bytes s) → T (are_bytes s') → as_listing s ≡ full_result l → as_listing s' ≡ full_result l → s ≡ s'
 as_listing_inj s s' l b b' e e' =
     ap (λ (c : Conversion). c.bytes) (sym (there_and_back s l b e) ∙ there_and_back s' l b' e')
 
-pub as_record_inj : (l l' s : List ℕ) → T (are_bytes l) → T (are_bytes l') → as_record l ≡ result s → as_record l' ≡ result s → l ≡ l'
+pub as_record_inj : (l l' s : List ℕ) → T (are_bytes l) → T (are_bytes l') → as_record l ≡ full_result s → as_record l' ≡ full_result s → l ≡ l'
 as_record_inj l l' s b b' e e' =
     ap (λ (c : Conversion). c.bytes) (sym (back_and_there l s b e) ∙ back_and_there l' s b' e')

@@ -15,13 +15,13 @@ pub record Conversion : Type 0 where
 abbrev pub refusal : ℕ → Conversion
 refusal n = record { status = n; bytes = [] }
 
-abbrev pub result : List ℕ → Conversion
-result bs = record { status = 0; bytes = bs }
+abbrev pub full_result : List ℕ → Conversion
+full_result bs = record { status = 0; bytes = bs }
 
 -- 3 where misshapen, else 4 where the token breaks a token rule, else what is written of it
 abbrev pub converted : (Token → List ℕ) → Read Token → Conversion
 converted f none = refusal 3
-converted f (some t end) = cond (keeps t) (result (f t)) (refusal 4)
+converted f (some t end) = cond (keeps t) (full_result (f t)) (refusal 4)
 
 unfoldable pub as_listing : List ℕ → Conversion
 as_listing s = converted listing_of (read_record s)

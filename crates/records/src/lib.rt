@@ -7,5 +7,5 @@ mod writing;
 pub use unpacking::{Filled, has_room, unpack};
 
 // A group's attribute word. A rights mask is another type, so that the two cannot change places.
-#[derive(Drop)]
+#[derive(Clone, Copy)]
 pub struct Attributes(pub u32);

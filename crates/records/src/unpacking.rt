@@ -18,7 +18,7 @@ use base::Num;
 
 // The place after what was read, and after what was written of it. Not ok where nothing was read.
 // Where clean, no identity read is S-1-3-4 or S-1-5-10; where not, nothing is said.
-#[derive(Drop)]
+#[derive(Clone, Copy)]
 pub struct Step {
     pub ok: bool,
     pub next: usize,
@@ -28,7 +28,7 @@ pub struct Step {
 
 // The length of the listing at the front of a buffer, 0 where there is none. Where clean, its token
 // keeps the token rules and is not confined; where not, nothing is said.
-#[derive(Drop)]
+#[derive(Clone, Copy)]
 pub struct Filled {
     pub length: usize,
     pub clean: bool,

@@ -7,7 +7,7 @@ use records::Attributes;
 
 // An identity of a listing: its SID stands from `from` to `to`, and `next` is the place after what
 // belongs to it. All 0 where no SID stands.
-#[derive(Drop)]
+#[derive(Clone, Copy)]
 pub struct Seat {
     pub from: usize,
     pub to: usize,

@@ -99,7 +99,7 @@ fn byte_of(high: u8, low: u8) -> u32
 }
 
 // Whether a text began with bytes, and how many.
-#[derive(Drop)]
+#[derive(Clone, Copy)]
 pub struct Hex {
     pub ok: bool,
     pub length: usize,

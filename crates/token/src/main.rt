@@ -5,7 +5,7 @@
 use libc::{STDERR_FILENO, STDIN_FILENO, STDOUT_FILENO};
 
 // What the first argument asks for.
-#[derive(Drop)]
+#[derive(Clone, Copy)]
 enum Task {
     List,
     Pack,

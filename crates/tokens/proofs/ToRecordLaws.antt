@@ -11,7 +11,7 @@ use lib.ListN.{length}
 use borrow.Author.Tests.{lt-ltb, le-ltb}
 use Rattle.records.specs.FlatListing.{read_listing}
 use Rattle.records.specs.TokenRecord.{record_of}
-use Rattle.records.specs.Converters.{as_record, fitted, refusal, result}
+use Rattle.records.specs.Converters.{as_record, fitted, refusal, full_result}
 use Rattle.records.specs.Packing.{record_bytes, Packable}
 use Rattle.records.proofs.RoundTrip.{listing_form, converted_kept}
 use Rattle.records.proofs.PackedLaws.{packed-listing, packed_short, packed_twice, packable-listing}
@@ -44,13 +44,13 @@ module _ (s : List ℕ) (j : Judged) (bytes : T (are_bytes s)) (is : j ≡ judge
       let f = listing_form s t.token t.end bytes t.read in
       rw f.0 (packed_twice t.token f.1)
 
-  pub record_of : j.status ≡ 0 → as_record s ≡ result (record_bytes s)
+  pub record_of_lem : j.status ≡ 0 → as_record s ≡ full_result (record_bytes s)
   unfolding as_record
-  record_of h =
+  record_of_lem h =
       let t = taken h in
       let f = listing_form s t.token t.end bytes t.read in
       let e : record_bytes s ≡ record_of t.token = ap record_bytes f.0 ∙ packed-listing t.token f.1 in
-      converted_kept record_of (read_listing s) t.token t.end t.read t.kept ∙ ap result (sym e)
+      converted_kept record_of (read_listing s) t.token t.end t.read t.kept ∙ ap full_result (sym e)
 
   pub fitted-refused : (room : ℕ) → (j.status ≡ 0 → ⊥) → fitted room (as_record s) ≡ refusal j.status
   unfolding fitted as_record
@@ -61,10 +61,10 @@ module _ (s : List ℕ) (j : Judged) (bytes : T (are_bytes s)) (is : j ≡ judge
 -- ---- n bytes within a lent buffer
 
 module _ (room n : ℕ) (b : List ℕ) (long : n ≡ length b) where
-  pub fitted-longer : room < n → fitted room (result b) ≡ refusal 11
+  pub fitted-longer : room < n → fitted room (full_result b) ≡ refusal 11
   unfolding fitted
   fitted-longer h = rw (lt-ltb room (length b) (omega arith))
 
-  pub fitted_within : n ≤ room → fitted room (result b) ≡ result b
+  pub fitted_within : n ≤ room → fitted room (full_result b) ≡ full_result b
   unfolding fitted
   fitted_within h = rw (le-ltb room (length b) (omega arith))

@@ -13,7 +13,7 @@ use crate::judging::judge;
 
 // A status number of the page (0, 3, 4 or 11), how long the listing at the front of a room is, and
 // the place of its confinement identity. Length and place are 0 on refusal.
-#[derive(Drop)]
+#[derive(Clone, Copy)]
 pub struct Extent {
     pub status: u32,
     pub length: usize,

@@ -11,7 +11,7 @@ ghost use Rattle.tokens.specs.Judging.{confinement_breaks, rest_breaks};
 
 // 3 where the listing is misshapen, 4 where its token breaks a token rule, else 0 and the place
 // of the confinement identity, or of the end where there is none.
-#[derive(Drop)]
+#[derive(Clone, Copy)]
 pub struct Judged {
     pub status: u32,
     pub confined_at: usize,
@@ -19,7 +19,7 @@ pub struct Judged {
 
 // The place after what was read, and whether it breaks a token rule. Not ok where nothing was read:
 // then the other fields mean nothing and are free.
-#[derive(Drop)]
+#[derive(Clone, Copy)]
 pub struct Walk {
     pub ok: bool,
     pub next: usize,
@@ -28,7 +28,7 @@ pub struct Walk {
 
 // The same of capabilities, and whether S-1-15-2-2 stands among them. Where `ok` is false the other
 // fields mean nothing and are free.
-#[derive(Drop)]
+#[derive(Clone, Copy)]
 pub struct Capabilities {
     pub ok: bool,
     pub next: usize,

@@ -9,7 +9,7 @@ pub use judging::{Judged, judge};
 pub use pack::to_record;
 
 // A status number of the page (0, 3, 4 or 11) and how many bytes were written.
-#[derive(Drop)]
+#[derive(Clone, Copy)]
 pub struct Converted {
     pub status: u32,
     pub length: usize,

@@ -7,7 +7,7 @@ ghost use Rattle.base.specs.Sevens.{packed};
 ghost use Rattle.base.specs.Writing.{Wrote};
 ghost use Rattle.sids.specs.Sid.{sid_end, is_sid};
 ghost use Rattle.records.specs.TokenRecord.{packed_words, pack_identity};
-ghost use Rattle.records.specs.Converters.{as_record, fitted, result};
+ghost use Rattle.records.specs.Converters.{as_record, fitted, full_result};
 ghost use Rattle.records.specs.Packing.{member_bytes, member_end, members_bytes, members_end};
 ghost use Rattle.records.specs.Packing.{MembersStand, crowd_bytes, crowd_end, CrowdStands};
 ghost use Rattle.records.specs.Packing.{record_bytes, Packable};
@@ -20,7 +20,7 @@ use crate::parts::{authority, identity_end, privileges, word};
 use records::Attributes;
 
 // The place after what was read, and after what was written of it.
-#[derive(Drop)]
+#[derive(Clone, Copy)]
 pub struct Place {
     pub from: usize,
     pub to: usize,
@@ -29,7 +29,7 @@ pub struct Place {
 // Writes a number of five groups, as most words of a domain are, and answers the place after it.
 fn put_five(out: &mut [u8], o: usize, v: u64) -> usize
     requires { (268435456 ≤ v) × (v < 34359738368) × (o + length (packed v) ≤ length out.old) }
-    ensures* { λ r. ⌜ Wrote out.old out.new o r (packed v) ⌝ }
+    ensures { Wrote out.old out.new o result (packed v) }
 {
     out[o] = (128 + v % 128) as u8;
     let b = v / 128;
@@ -51,7 +51,7 @@ fn put_five(out: &mut [u8], o: usize, v: u64) -> usize
 // one byte or five, which are written at once.
 fn put(out: &mut [u8], o: usize, v: u64) -> usize
     requires { o + length (packed v) ≤ length out.old }
-    ensures* { λ r. ⌜ Wrote out.old out.new o r (packed v) ⌝ }
+    ensures { Wrote out.old out.new o result (packed v) }
 {
     if v < 128 {
         out[o] = v as u8;
@@ -76,7 +76,7 @@ fn put(out: &mut [u8], o: usize, v: u64) -> usize
 // The n words of a SID.
 fn pack_words(w: &[u8], n: usize, out: &mut [u8], o: usize) -> usize
     requires { (8 + 4 * n ≤ length w.now) × (o + length (packed_words n w.now 8) ≤ length out.old) }
-    ensures* { λ r. ⌜ Wrote out.old out.new o r (packed_words n w.now 8) ⌝ }
+    ensures { Wrote out.old out.new o result (packed_words n w.now 8) }
 {
     let mut from: usize = 8;
     let mut to = o;
@@ -92,7 +92,7 @@ fn pack_words(w: &[u8], n: usize, out: &mut [u8], o: usize) -> usize
 // An identity: its count, 48-bit authority and words.
 fn pack_identity(w: &[u8], out: &mut [u8], o: usize) -> usize
     requires { (is_sid w.now ≡ true) × (o + length (pack_identity w.now) ≤ length out.old) }
-    ensures* { λ r. ⌜ Wrote out.old out.new o r (pack_identity w.now) ⌝ }
+    ensures { Wrote out.old out.new o result (pack_identity w.now) }
 {
     let n = base::wide(w[1]);
     let a = put(out, o, n as u64);
@@ -103,7 +103,7 @@ fn pack_identity(w: &[u8], out: &mut [u8], o: usize) -> usize
 // A group's attribute word.
 fn pack_attributes(word: Attributes, out: &mut [u8], o: usize) -> usize
     requires { o + length (packed word.0) ≤ length out.old }
-    ensures* { λ r. ⌜ Wrote out.old out.new o r (packed word.0) ⌝ }
+    ensures { Wrote out.old out.new o result (packed word.0) }
 {
     put(out, o, word.0 as u64)
 }
@@ -111,8 +111,8 @@ fn pack_attributes(word: Attributes, out: &mut [u8], o: usize) -> usize
 // A member at a place: an identity and, where `attrs`, its attribute word.
 fn pack_member(s: &[u8], at: usize, attrs: bool, out: &mut [u8], o: usize) -> Place
     requires { (sid_end s.now at ≡ 0 → ⊥) × (o + length (member_bytes attrs s.now at) ≤ length out.old) }
-    ensures* fact { λ r. ⌜ Wrote out.old out.new o r.to (member_bytes attrs s.now at) ⌝ }
-    ensures* from_value { λ r. ⌜ r.from ≡ member_end attrs s.now at ⌝ }
+    ensures wrote { Wrote out.old out.new o result.to (member_bytes attrs s.now at) }
+    ensures from_value { result.from ≡ member_end attrs s.now at }
 {
     let e = identity_end(s, at);
     let w = &s[at..e];
@@ -130,8 +130,8 @@ fn pack_member(s: &[u8], at: usize, attrs: bool, out: &mut [u8], o: usize) -> Pl
 // As many members, one after the other.
 fn pack_members(s: &[u8], at: usize, n: usize, attrs: bool, out: &mut [u8], o: usize) -> Place
     requires { MembersStand attrs n s.now at × (o + length (members_bytes attrs n s.now at) ≤ length out.old) }
-    ensures* fact { λ r. ⌜ Wrote out.old out.new o r.to (members_bytes attrs n s.now at) ⌝ }
-    ensures* from_value { λ r. ⌜ r.from ≡ members_end attrs n s.now at ⌝ }
+    ensures wrote { Wrote out.old out.new o result.to (members_bytes attrs n s.now at) }
+    ensures from_value { result.from ≡ members_end attrs n s.now at }
 {
     let mut from = at;
     let mut to = o;
@@ -149,8 +149,8 @@ fn pack_members(s: &[u8], at: usize, n: usize, attrs: bool, out: &mut [u8], o: u
 // with the capabilities.
 fn pack_crowd(s: &[u8], at: usize, attrs: bool, out: &mut [u8], o: usize) -> Place
     requires { CrowdStands attrs s.now at × (o + length (crowd_bytes attrs s.now at) ≤ length out.old) }
-    ensures* fact { λ r. ⌜ Wrote out.old out.new o r.to (crowd_bytes attrs s.now at) ⌝ }
-    ensures* from_value { λ r. ⌜ r.from ≡ crowd_end attrs s.now at ⌝ }
+    ensures wrote { Wrote out.old out.new o result.to (crowd_bytes attrs s.now at) }
+    ensures from_value { result.from ≡ crowd_end attrs s.now at }
 {
     let e = identity_end(s, at);
     let w = &s[at..e];
@@ -163,7 +163,7 @@ fn pack_crowd(s: &[u8], at: usize, attrs: bool, out: &mut [u8], o: usize) -> Pla
 // The whole record of a listing, from the front of the buffer, and its length.
 fn pack(s: &[u8], out: &mut [u8]) -> usize
     requires { Packable s.now × (length (record_bytes s.now) ≤ length out.old) }
-    ensures* { λ r. ⌜ Wrote out.old out.new 0 r (record_bytes s.now) ⌝ }
+    ensures { Wrote out.old out.new 0 result (record_bytes s.now) }
 {
     let flags = base::u32_at(s, 0);
     let a = put(out, 0, 1);
@@ -181,8 +181,8 @@ fn pack(s: &[u8], out: &mut [u8]) -> usize
 // 11 where the record is longer than it.
 fn packed_by(s: &[u8], room: &mut [u8], out: &mut [u8]) -> Converted
     requires { Packable s.now × (length (record_bytes s.now) ≤ length room.old) }
-    ensures* r_value { λ r. ⌜ r ≡ answered (fitted (length out.old) (result (record_bytes s.now))) ⌝ }
-    ensures* out_after { λ r. ⌜ out.new ≡ sets out.old 0 (fitted (length out.old) (result (record_bytes s.now))).bytes ⌝ }
+    ensures value { result ≡ answered (fitted (length out.old) (full_result (record_bytes s.now))) }
+    ensures out_after { out.new ≡ sets out.old 0 (fitted (length out.old) (full_result (record_bytes s.now))).bytes }
 {
     let n = pack(s, room);
     if out.len() < n {
@@ -203,8 +203,8 @@ fn packed_by(s: &[u8], room: &mut [u8], out: &mut [u8]) -> Converted
 // where the record is longer than `out`. Where `out` is surely long enough the record is packed
 // there, and else in a room that is.
 pub fn to_record(s: &[u8], out: &mut [u8]) -> Converted
-    ensures* r_value { λ r. ⌜ r ≡ answered (fitted (length out.old) (as_record s.now)) ⌝ }
-    ensures* out_after { λ r. ⌜ out.new ≡ sets out.old 0 (fitted (length out.old) (as_record s.now)).bytes ⌝ }
+    ensures value { result ≡ answered (fitted (length out.old) (as_record s.now)) }
+    ensures out_after { out.new ≡ sets out.old 0 (fitted (length out.old) (as_record s.now)).bytes }
 {
     let j = judge(s);
     if j.status != 0 {

@@ -74,7 +74,7 @@ fn case(line: &[u8], rest: &[u8]) -> u8 {
 }
 
 // How many cases were met, and how many differ.
-#[derive(Drop)]
+#[derive(Clone, Copy)]
 struct Score {
     cases: u64,
     differ: u64,

@@ -7,7 +7,7 @@ use lib.ListN.{length}
 use Rattle.base.proofs.BytesLaws.{bytes_of_lt}
 use Rattle.base.proofs.WriteLaws.{wrote_length, buffer_room}
 use Rattle.records.specs.Packing.{record_bytes}
-use Rattle.tokens.proofs.ToRecordLaws.{judged-packable, judged-short, judged-twice, record_of, fitted-refused, fitted_within}
+use Rattle.tokens.proofs.ToRecordLaws.{judged-packable, judged-short, judged-twice, record_of_lem, fitted-refused, fitted_within}
 use borrow.Author.Rules.{rules}
 use Rattle.tokens.proofs.pack.to_record.Statement.{statement}
 use Rattle.tokens.proofs.pack.to_record.Tie as tie
@@ -55,7 +55,7 @@ returns-2 c =
     let w = judged-twice a.s.now j.result b j.ensures.0 h in
     let n = wrote_length p.ensures in
     let k : p.result ≤ length a.out.now = omega (arith, at-if2.if2.true) in
-    let e = record_of a.s.now j.result b j.ensures.0 h in
+    let e = record_of_lem a.s.now j.result b j.ensures.0 h in
     let f = fitted_within (length a.out.now) p.result (record_bytes a.s.now) n k in
     (rw (e, f) (ap (λ (m : ℕ). record { status = 0; length = m }) n), rw (e, f) p.ensures.bytes)
 
@@ -90,7 +90,7 @@ returns-3 c =
     let b = bytes_of_lt a.s.now (λ i l. (at-known.shared-slice-known.given i).fits) in
     let h = at-if.if1.false in
     let p = at-packed-by.packed-by in
-    let e = record_of a.s.now j.result b j.ensures.0 h in
+    let e = record_of_lem a.s.now j.result b j.ensures.0 h in
     (rw e p.ensures.0, rw e p.ensures.1)
 
 slice-aggregate-packed-by-2 : tie.Need-slice-aggregate-packed-by-2
@@ -122,7 +122,7 @@ returns-4 c =
     let b = bytes_of_lt a.s.now (λ i l. (at-known.shared-slice-known.given i).fits) in
     let h = at-if.if1.false in
     let p = at-packed-by2.packed-by2 in
-    let e = record_of a.s.now j.result b j.ensures.0 h in
+    let e = record_of_lem a.s.now j.result b j.ensures.0 h in
     (rw e p.ensures.0, rw e p.ensures.1)
 
 pub to_record_spec : {M : Type 1} → statement M

@@ -1,0 +1,22 @@
+-- `u16_at` meets its contract: where the bytes are there each is one of the sum, and where they are not the answer is 0.
+-- Assumes nothing.
+use mathlib.Core.Path.{sym}
+use native.Mathlib.Omega.{arith}
+use Rattle.base.proofs.WordsLaws.{u16-at-in, u16-at-out}
+use Rattle.base.proofs.bytes.u16_at.Goals as goal
+
+pub returns-then-s-lt2 : goal.returns-then-s-lt2
+returns-then-s-lt2 c =
+    let a = c.args in
+    record { value = sym (u16-at-out a.s.now a.at (omega arith)); upper_bound = omega arith }
+
+pub returns-then-s-at : goal.returns-then-s-at
+returns-then-s-at c =
+    let a = c.args in
+    record { value = sym (u16-at-out a.s.now a.at (omega arith)); upper_bound = omega arith }
+
+pub returns : goal.returns
+returns c =
+    let a = c.args in
+    let e = u16-at-in a.s.now a.at (omega arith) in
+    record { value = omega (arith, e); upper_bound = omega arith }
