@@ -1,0 +1,17 @@
+-- `end` meets its contract. The loop's invariant: the list ends where the entries left from here do. The measure is how many these are.
+-- Assumes nothing.
+use Prim.Native.Nat.{ℕ, ◌+◌, ◌-◌, ◌≤◌}
+use mathlib.Core.Path.{◌≡◌, sym, ap, ◌∙◌}
+use native.Mathlib.Omega.{arith}
+use borrow.Author.Rules.{rules}
+use Rattle.base.specs.Bytes.{u16_at}
+use Rattle.lists.specs.declared.acl.Ace.{Ace}
+use Rattle.reader.specs.Reading.{end_from}
+use Rattle.reader.proofs.StepLaws.{end_none, end-stop, end_more, end_left}
+use Rattle.reader.proofs.end.Given as goal
+
+abbrev pub invariant-loop-k : goal.invariant-loop-k
+invariant-loop-k l = (l.k ≤ l.n) × (end_from l.list (u16_at l.list 4) 8 ≡ end_from l.list (l.n - l.k) l.p)
+
+abbrev pub decreases-loop-k : goal.decreases-loop-k
+decreases-loop-k l = l.n - l.k
