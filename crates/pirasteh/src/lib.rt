@@ -1,5 +1,5 @@
-// The functions that C and Rust call. Each hands its arguments to the check or to a converter, and
-// the answer to the numbers lent for it; nothing is decided here.
+// The functions that C and Rust call; `pirasteh_c` exports them. Each hands its arguments to the
+// check or to a converter, and the answer to the numbers lent for it; nothing is decided here.
 ghost use Rattle.std.specs.Prelude.{◌≡◌, cond, length};
 ghost use Rattle.records.specs.Converters.{as_listing, as_record, fitted};
 ghost use Rattle.access.specs.Status.{checked};
@@ -34,8 +34,7 @@ fn tell(a: Answer, granted: &mut u32, allowed: &mut u32, staged: &mut u32) -> u3
 
 // The answer to a question: the status, and in the lent numbers the granted mask, allowed (1 or 0)
 // and the staging flag (1 or 0); all three are 0 on refusal.
-#[unsafe(no_mangle)]
-pub extern "C" fn pirasteh_check(
+pub fn pirasteh_check(
     kind: u32,
     mask: u32,
     token: &[u8],
@@ -60,8 +59,7 @@ pub extern "C" fn pirasteh_check(
 }
 
 // The answer to a question file, in the same way.
-#[unsafe(no_mangle)]
-pub extern "C" fn pirasteh_question(
+pub fn pirasteh_question(
     file: &[u8],
     granted: &mut u32,
     allowed: &mut u32,
@@ -96,8 +94,7 @@ fn if_answered(status: u32, n: u32) -> u32
 // The answer to a question with its masks: beside what `pirasteh_check` says, in the lent numbers
 // the bits asked for, and of these those after normal evaluation, after confinement and after
 // policy; all are 0 on refusal.
-#[unsafe(no_mangle)]
-pub extern "C" fn pirasteh_why(
+pub fn pirasteh_why(
     kind: u32,
     mask: u32,
     token: &[u8],
@@ -130,8 +127,7 @@ pub extern "C" fn pirasteh_why(
 }
 
 // The answer to a question file with its masks, in the same way, and its kind.
-#[unsafe(no_mangle)]
-pub extern "C" fn pirasteh_why_question(
+pub fn pirasteh_why_question(
     file: &[u8],
     kind: &mut u32,
     asked: &mut u32,
@@ -159,8 +155,7 @@ pub extern "C" fn pirasteh_why_question(
 
 // The answer to a question, in the same way as `pirasteh_check`, and its trail: 11 where `trail` is
 // too short for that. In `written` how many bytes; `trail` is unchanged past them, and on refusal.
-#[unsafe(no_mangle)]
-pub extern "C" fn pirasteh_trail(
+pub fn pirasteh_trail(
     kind: u32,
     mask: u32,
     token: &[u8],
@@ -190,8 +185,7 @@ pub extern "C" fn pirasteh_trail(
 }
 
 // The answer to a question file and its trail, in the same way.
-#[unsafe(no_mangle)]
-pub extern "C" fn pirasteh_trail_question(
+pub fn pirasteh_trail_question(
     file: &[u8],
     trail: &mut [u8],
     written: &mut usize,
@@ -211,8 +205,7 @@ pub extern "C" fn pirasteh_trail_question(
 
 // The flat listing of a packed token record, written to `out`: the status, and in `written` how
 // many bytes. `out` is unchanged past them, and on refusal.
-#[unsafe(no_mangle)]
-pub extern "C" fn pirasteh_list(token: &[u8], out: &mut [u8], written: &mut usize) -> u32
+pub fn pirasteh_list(token: &[u8], out: &mut [u8], written: &mut usize) -> u32
     ensures { Handed (fitted (length out.old) (as_listing token.now))
         out.old out.new written.new result }
 {
@@ -222,8 +215,7 @@ pub extern "C" fn pirasteh_list(token: &[u8], out: &mut [u8], written: &mut usiz
 }
 
 // The packed token record of a flat listing, in the same way.
-#[unsafe(no_mangle)]
-pub extern "C" fn pirasteh_pack(listing: &[u8], out: &mut [u8], written: &mut usize) -> u32
+pub fn pirasteh_pack(listing: &[u8], out: &mut [u8], written: &mut usize) -> u32
     ensures { Handed (fitted (length out.old) (as_record listing.now))
         out.old out.new written.new result }
 {

@@ -1,0 +1,28 @@
+-- `head` meets its contract: what stands under the key, where it is a number of a seat.
+-- Assumes nothing.
+use Prim.Native.Nat.{ℕ, ◌<◌}
+use mathlib.Core.Path.{◌≡◌, sym, ap, ◌∙◌}
+use native.Mathlib.Omega.{arith}
+use lib.ListN.{length, get_or}
+use Rattle.seats.specs.Key.{key_of}
+use Rattle.passes.proofs.ChainsLaws.{head-past, head-within}
+use borrow.Author.Rules.{rules}
+use Rattle.passes.proofs.search.head.Goals as goal
+use Rattle.passes.proofs.search.head.Goals.{After-wide-n}
+
+-- what was read is the head of the SID's key
+read : (c : After-wide-n) → c.wide-n.result ≡ get_or c.args.heads.now
+    (key_of c.args.w.now) 0
+read c = c.wide-n.ensures.0 ∙ ap (λ (k : ℕ). get_or c.args.heads.now k 0)
+    c.key-k.ensures.value
+
+pub returns-then-seats-n : goal.returns-then-seats-n
+returns-then-seats-n c = 
+    let a = c.args in
+    record { value = sym (head-past a.heads.now a.seats.now a.w.now c.wide-n.result (read (goal.at.returns-then-seats-n c).After-wide-n) c.if-seats-n.true); upper_bound = omega arith; }
+
+pub returns : goal.returns
+returns c = 
+    let a = c.args in
+    let within : c.wide-n.result < length a.seats.now = omega (arith, c.if-seats-n.false) in
+    record { value = sym (head-within a.heads.now a.seats.now a.w.now c.wide-n.result (read (goal.at.returns c).After-wide-n) within); upper_bound = omega arith; }
