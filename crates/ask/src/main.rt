@@ -6,6 +6,8 @@
 // same; only where standard error fails too, or memory for what is said there, is it 1.
 #![tactic(auto)]
 
+ghost use Rattle.std.specs.Prelude.{◌≡◌, take, IfOk, IfSome};
+
 use answers::Answer;
 use lists::Rights;
 use std::alloc::Global;
@@ -149,8 +151,11 @@ fn fail(rt: &HostRuntime, what: &[u8], error: &io::Error) -> io::Result<()> {
 // One byte more than the longest question has, so that a longer file is seen to be too long.
 const LIMIT: u64 = 65537;
 
-// The bytes of an input, as far as the limit.
-fn read<R: Read + Drop>(alloc: Global, input: R) -> io::Result<Vec<u8>> {
+// The first bytes of an input, as many as the limit.
+fn read<R: Read + Drop>(alloc: Global, input: R) -> io::Result<Vec<u8>>
+    ensures { IfOk result (λ file. IfSome (R.remaining input)
+        (λ bytes. file.items ≡ take 65537 bytes)) }
+{
     let mut file = Vec::new(alloc);
     input.take(LIMIT).read_to_end(&mut file)?;
     Ok(file)

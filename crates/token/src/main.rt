@@ -6,6 +6,8 @@
 // memory for what is said there, is it 1.
 #![tactic(auto)]
 
+ghost use Rattle.std.specs.Prelude.{◌≡◌, take, IfOk, IfSome};
+
 use std::alloc::Global;
 use std::env::{Env, FillError};
 use std::fs::File;
@@ -98,8 +100,11 @@ fn pack(rt: &HostRuntime, file: &[u8]) -> io::Result<()> {
 // More than the longest record or listing has, so that a longer file is seen to be too long.
 const LIMIT: u64 = 65537;
 
-// The bytes of an input, as far as the limit.
-fn read<R: Read + Drop>(alloc: Global, input: R) -> io::Result<Vec<u8>> {
+// The first bytes of an input, as many as the limit.
+fn read<R: Read + Drop>(alloc: Global, input: R) -> io::Result<Vec<u8>>
+    ensures { IfOk result (λ file. IfSome (R.remaining input)
+        (λ bytes. file.items ≡ take 65537 bytes)) }
+{
     let mut file = Vec::new(alloc);
     input.take(LIMIT).read_to_end(&mut file)?;
     Ok(file)
