@@ -7,9 +7,10 @@
 # page run one after another in one shell, with `pirasteh` on the path: those of README.md and
 # CONTRIBUTING.md at the root of the repository, those of the other pages in an empty folder. What a
 # command prints, on both outputs, has to be what stands below it; `...` stands for anything. Commands
-# that prove (`rt`, `.ci/run`, `scripts/programs`) are the gate's own and are left out. Paths in backquotes have to be
-# there, and so have the vectors that docs/REFUSALS.md names, with its numbers, and the cases and
-# definitions that docs/RULES.md names; the examples that docs/FORMATS.md takes apart are the files.
+# that prove (`rt`, `.ci/run`, `scripts/programs`) are the gate's own and are left out. Paths in
+# backquotes have to be there, and so have the vectors that docs/REFUSALS.md names, with its numbers,
+# and the cases and definitions that docs/RULES.md names; the examples that docs/FORMATS.md takes apart
+# are the files.
 set -uo pipefail
 : "${PIRASTEH:?is not set: give the absolute path of the command}"
 : "${PIRASTEH_LIB_DIR:?is not set: give the folder that holds libpirasteh.a}"
