@@ -1,5 +1,7 @@
 // The audit trail of a question, and whether staged audit differs. Knows the entries of SACLs, and
 // of a token what the passes know; not what is granted.
+#![tactic(auto)]
+
 mod entry;
 mod firing;
 mod putting;

@@ -2,9 +2,8 @@
 -- staged SACL has the entry twice, so that the flag is raised (trail-holds); six bytes are room enough, and five are not (trail-exact,
 -- trail-short).
 -- Assumes nothing.
-use Prim.Native.Nat.{ℕ}
 use mathlib.Core.Path.{◌≡◌, refl}
-use mathlib.Core.List.{List, [], ◌∷◌}
+use mathlib.Core.List.{[], ◌∷◌}
 use mathlib.Core.Bool.{true}
 use Rattle.access.specs.Status.{Question}
 use Rattle.access.specs.Reported.{report, refusal, report_of, in_buffer}

@@ -1,5 +1,7 @@
 // Conditional expressions: what their bytes are, byte by byte from the left. What a test of
 // membership is told comes from outside: nothing here knows who asks.
+#![tactic(auto)]
+
 mod condition;
 mod padding;
 mod scan;

@@ -9,9 +9,9 @@ use mathlib.Core.List.{List, [], ◌∷◌}
 use mathlib.Core.Bool.{Bool, true, false, cond}
 use native.Mathlib.Omega.{arith}
 use lib.ListN.{length}
-use lib.Dec.{T, ltb, eqb}
+use lib.Dec.{T, eqb}
 use lib.Pow.{are_bytes}
-use borrow.Author.Tests.{lt-ltb, eq-eqb, ne_eqb, eqb-true, eqb-false, ltb-true, ltb-false}
+use borrow.Author.Tests.{eq-eqb, ne_eqb, eqb-true, eqb-false}
 use Rattle.base.specs.Bytes.{byte_at, u16_at, part}
 use Rattle.base.proofs.BoolLaws.{true_false}
 use Rattle.base.proofs.BytesLaws.{length_part, bytes_part, byte_lt}

@@ -4,7 +4,7 @@
 -- In order: numbers (u16-alike, u32-alike), an identity (sid-end-alike), a heading (head-end-alike), bytes (part-alike), an entry
 -- (sid-alike, condition-alike, ace-alike, entry-alike, content-alike), all entries of a list (entries-alike, spare-unread). Assumes
 -- nothing.
-use Prim.Native.Nat.{ℕ, zero, suc, ◌+◌, ◌-◌, ◌*◌, ◌%◌, ◌<◌, ◌≤◌}
+use Prim.Native.Nat.{ℕ, zero, suc, ◌+◌, ◌-◌, ◌*◌, ◌%◌, ◌≤◌}
 use mathlib.Core.Path.{◌≡◌, refl, sym, ap, ap₂, ◌∙◌}
 use mathlib.Core.List.{List, [], ◌∷◌}
 use mathlib.Core.Bool.{Bool, true, false, cond}
@@ -16,7 +16,7 @@ use Rattle.conditions.specs.Condition.{shape}
 use Rattle.base.proofs.BytesLaws.{length_part}
 use Rattle.base.proofs.WordsLaws.{u16-at-in, u32-at-in}
 use Rattle.sids.specs.Sid.{sid_end}
-use Rattle.lists.specs.Acl.{callback, head_end, named, entry_end, content_of, shaped, foreign, scan_of, Entry, ace_at, condition_of}
+use Rattle.lists.specs.Acl.{callback, head_end, named, entry_end, shaped, foreign, scan_of, Entry, ace_at, condition_of}
 use Rattle.lists.specs.Acl.{entry_of}
 use Rattle.lists.specs.Acl.{entries_at, entries_of}
 use Rattle.lists.specs.Spare.{Agree, read_to, AgreeAll, SameButSpare}

@@ -18,7 +18,6 @@ use Rattle.lists.specs.Acl.{acl_end, scanned, scan_of}
 use Rattle.lists.specs.Descriptor.{heading, bad, absent, alien, start_of, end_of, place_of, Inside}
 use Rattle.lists.specs.Descriptor.{owner_piece, group_piece, sacl_piece, dacl_piece, refused_parts, whole_parts, judged, parts_of}
 use Rattle.lists.specs.Descriptor.{owner_of, group_of, sacl_of, dacl_of}
-use Rattle.conditions.specs.declared.scan.Scan as scan
 use Rattle.conditions.specs.declared.scan.Scan.TheVariants.{Plain}
 use Rattle.lists.specs.declared.descriptor.Extent.{Extent}
 use Rattle.lists.specs.declared.descriptor.Piece.{Piece}

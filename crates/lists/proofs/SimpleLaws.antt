@@ -1,7 +1,7 @@
 -- Laws of simple lists (specs: Simple). In order: the entries one by one (simple-start, simple-end, simple-none, simple-other,
 -- simple-unfit, simple-more); a simple list is plain (simple-plain). Assumes nothing.
 use Prim.Native.Nat.{ℕ, zero, suc, ◌+◌, ◌-◌, ◌<◌, ◌≤◌}
-use mathlib.Core.Path.{◌≡◌, refl, sym, ap, ◌∙◌}
+use mathlib.Core.Path.{◌≡◌, refl, sym, ◌∙◌}
 use mathlib.Core.List.{List}
 use mathlib.Core.Bool.{Bool, true, false, cond}
 use native.Mathlib.Omega.{arith}
@@ -9,7 +9,7 @@ use lib.Dec.{ltb, eqb}
 use borrow.Author.Tests.{lt-ltb, le-ltb, ltb-false, eq-eqb, ne_eqb, eqb-false}
 use Rattle.base.specs.Bytes.{byte_at, u16_at}
 use Rattle.base.proofs.BoolLaws.{true_false}
-use Rattle.lists.specs.Acl.{head_end, holds, entry_end, content_of, shaped, foreign, scanned, scan_of}
+use Rattle.lists.specs.Acl.{head_end, entry_end, content_of, shaped, foreign, scan_of}
 use Rattle.lists.specs.Simple.{fits_as, simple_at, simple}
 use Rattle.conditions.specs.declared.scan.Scan.TheVariants.{Plain}
 use Rattle.lists.proofs.TypeLaws.{callback-low, named-low, audits-low}

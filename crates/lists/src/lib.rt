@@ -1,4 +1,6 @@
 // Lists and descriptors (MS-DTYP), read in place from lent bytes. Knows nothing of tokens.
+#![tactic(auto)]
+
 mod acl;
 mod by_length;
 mod descriptor;

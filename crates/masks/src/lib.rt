@@ -1,5 +1,7 @@
 // Kinds and masks, and the tally of one pass. Of lists only the type of a rights mask is known, and
 // nothing of tokens or of who matches.
+#![tactic(auto)]
+
 mod masks;
 mod tally;
 

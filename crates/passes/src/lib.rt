@@ -1,6 +1,8 @@
 // Matching, and one pass over a list. Lists are read through `lists` alone, and of a token only its
 // flat listing, through `seats`. Which tokens are refused, and how a listing is made, is not known
 // here.
+#![tactic(auto)]
+
 mod chains;
 mod evaluation;
 mod matching;

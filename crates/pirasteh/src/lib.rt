@@ -1,5 +1,7 @@
 // The functions that C and Rust call; `pirasteh_c` exports them. Each hands its arguments to the
 // check or to a converter, and the answer to the numbers lent for it; nothing is decided here.
+#![tactic(auto)]
+
 ghost use Rattle.std.specs.Prelude.{◌≡◌, cond, length};
 ghost use Rattle.records.specs.Converters.{as_listing, as_record, fitted};
 ghost use Rattle.access.specs.Status.{checked};
@@ -59,12 +61,7 @@ pub fn pirasteh_check(
 }
 
 // The answer to a question file, in the same way.
-pub fn pirasteh_question(
-    file: &[u8],
-    granted: &mut u32,
-    allowed: &mut u32,
-    staged: &mut u32,
-) -> u32
+pub fn pirasteh_question(file: &[u8], granted: &mut u32, allowed: &mut u32, staged: &mut u32) -> u32
     ensures { Told (file_answer file.now) result
         granted.new allowed.new staged.new }
 {

@@ -1,6 +1,7 @@
 // The functions of `pirasteh` as C calls them. Each hands on what it is passed and answers what it is
 // answered, and says the same of it; nothing is decided here.
 #![tactic(auto)]
+
 ghost use Rattle.std.specs.Prelude.{◌≡◌, length};
 ghost use Rattle.records.specs.Converters.{as_listing, as_record, fitted};
 ghost use Rattle.access.specs.Status.{checked};
@@ -33,7 +34,9 @@ pub extern "C" fn pirasteh_check(
       policy = policy.now;
     })) result granted.new allowed.new staged.new }
 {
-    pirasteh::pirasteh_check(kind, mask, token, me, descriptor, policy, granted, allowed, staged)
+    pirasteh::pirasteh_check(
+        kind, mask, token, me, descriptor, policy, granted, allowed, staged,
+    )
 }
 
 // The answer to a question file, in the same way.
@@ -79,7 +82,10 @@ pub extern "C" fn pirasteh_why(
     })) kind mask result asked.new normal.new confined.new
         ruled.new granted.new allowed.new staged.new }
 {
-    pirasteh::pirasteh_why(kind, mask, token, me, descriptor, policy, asked, normal, confined, ruled, granted, allowed, staged)
+    pirasteh::pirasteh_why(
+        kind, mask, token, me, descriptor, policy, asked, normal, confined, ruled, granted,
+        allowed, staged,
+    )
 }
 
 // The answer to a question file with its masks, in the same way, and its kind.
@@ -102,7 +108,9 @@ pub extern "C" fn pirasteh_why_question(
     ensures kind_after { kind.new ≡ if_answered (file_answer file.now).status
         (file_desires file.now).kind }
 {
-    pirasteh::pirasteh_why_question(file, kind, asked, normal, confined, ruled, granted, allowed, staged)
+    pirasteh::pirasteh_why_question(
+        file, kind, asked, normal, confined, ruled, granted, allowed, staged,
+    )
 }
 
 // The answer to a question, in the same way as `pirasteh_check`, and its trail: 11 where `trail` is
@@ -131,7 +139,9 @@ pub extern "C" fn pirasteh_trail(
     }))) trail.old trail.new written.new result
         granted.new allowed.new staged.new }
 {
-    pirasteh::pirasteh_trail(kind, mask, token, me, descriptor, policy, trail, written, granted, allowed, staged)
+    pirasteh::pirasteh_trail(
+        kind, mask, token, me, descriptor, policy, trail, written, granted, allowed, staged,
+    )
 }
 
 // The answer to a question file and its trail, in the same way.

@@ -9,7 +9,6 @@ use Rattle.lists.specs.Acl.{acl_end, scan_of}
 use Rattle.conditions.specs.declared.scan.Scan.{Scan}
 use Rattle.conditions.specs.declared.scan.Scan.TheVariants.{Broken, Plain}
 use Rattle.policy.specs.declared.sections.Section.{Section}
-use Rattle.policy.specs.declared.one_rule.Rule as rule
 use Rattle.policy.specs.declared.one_rule.Rule.{Rule}
 use Rattle.policy.specs.declared.shape.Standing.{Standing}
 use Rattle.policy.specs.declared.shape.Standing.TheVariants.{Sound, Misshapen, Unread}

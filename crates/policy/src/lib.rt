@@ -1,5 +1,7 @@
 // Policies: shape, and what the rules leave. Knows nothing of descriptors, of confinement or of
 // what is asked.
+#![tactic(auto)]
+
 mod one_rule;
 mod rules;
 mod sections;

@@ -1,1 +1,3 @@
+#![tactic(auto)]
+
 // The front page: no code, only the promises, in proofs/Promises.antt.

@@ -4,6 +4,8 @@
 // How many entries are left is not kept beside the place. Bytes after the last entry are accepted,
 // so opening walks the list once, by its own count, and the reader holds the list up to its last
 // entry: there it ends. A step then reads one entry, and a whole reading is linear.
+#![tactic(auto)]
+
 ghost use Rattle.std.specs.Prelude.{◌≡◌};
 ghost use Rattle.reader.specs.Reading.{end_from, held, step_at, next_place};
 ghost use Rattle.base.specs.Bytes.{u16_at};

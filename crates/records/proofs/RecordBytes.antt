@@ -1,7 +1,7 @@
 -- The packed record as the bytes of its flat listing: each part, read and written, is that part of `Unpacking`.
 -- In order: a count and what follows, groups, the confinement, a front before all that is written, the people, the fields.
 -- Not here: what the whole record comes to, RecordAnswer. Assumes nothing.
-use Prim.Native.Nat.{ℕ, ◌+◌}
+use Prim.Native.Nat.{ℕ}
 use mathlib.Core.Path.{◌≡◌, refl, sym, ap, ◌∙◌}
 use mathlib.Core.List.{List, ◌++◌, append_assoc}
 use mathlib.Core.Bool.{Bool, true, false}

@@ -4,7 +4,7 @@
 -- limited-past), a buffer that is cleared (fill_more, fill_none, filled). Assumes nothing.
 use Prim.Native.Nat.{ℕ, zero, suc, ◌+◌, ◌-◌, ◌*◌, ◌/◌, ◌<◌, ◌≤◌}
 use mathlib.Core.Path.{◌≡◌, refl, sym, ap, ◌∙◌}
-use mathlib.Core.List.{List, [], ◌∷◌, ◌++◌, append-nil}
+use mathlib.Core.List.{List, ◌++◌, append-nil}
 use mathlib.Core.Logic.{◌⊎◌, inl, inr}
 use mathlib.Core.Bool.{Bool, true, false, not, ◌||◌}
 use native.Mathlib.Numerals.{add-one}
@@ -13,8 +13,8 @@ use borrow.Author.Tests.{not-false, le-leb, lt-leb, leb-true, leb-false}
 use lib.Dec.{leb}
 use lib.ListN.{length, set, drop, replicate, length-replicate}
 use lib.Seq.{sets, sets-eq, drop-length}
-use Rattle.base.specs.Bytes.{Read, bind, only}
-use Rattle.base.specs.Bytes.Read.{none, some}
+use Rattle.base.specs.Bytes.{only}
+use Rattle.base.specs.Bytes.Read.{some}
 use Rattle.base.specs.Sevens.{number, num_of}
 use Rattle.base.specs.declared.sevens.Num.{Num}
 use Rattle.base.proofs.ReadLaws.{bound, allowed, num_some}

@@ -1,12 +1,11 @@
 -- A record is at most twice as long as the listing of the same token (record-twice): so is each part of it.
 -- In order: a sequence (each_twice), the fields (fields-twice), the two formats. Assumes nothing.
-use Prim.Native.Nat.{ℕ, suc, ◌+◌, ◌*◌, ◌^◌, ◌<◌, ◌≤◌}
-use mathlib.Core.List.{List, [], ◌∷◌, ◌++◌}
+use Prim.Native.Nat.{ℕ, suc, ◌*◌, ◌^◌, ◌<◌, ◌≤◌}
+use mathlib.Core.List.{List, [], ◌∷◌}
 use mathlib.Core.Bool.{Bool, true, false}
 use native.Mathlib.Omega.{arith}
 use lib.ListN.{length, length-append}
 use Rattle.base.specs.Bytes.{byte_at, u48_be_at}
-use Rattle.base.specs.Sevens.{packed}
 use Rattle.base.proofs.ValueLaws.{length_little}
 use Rattle.base.proofs.WordsLaws.{u48-be-at-lt}
 use Rattle.base.proofs.SevensLaws.{packed_length}

@@ -1,6 +1,8 @@
 // Token records and flat listings: what they are, the laws of both, and the way from a record to the
 // bytes of its listing, which tells of usual tokens that they keep the token rules. Of the others
 // that is left to `tokens`.
+#![tactic(auto)]
+
 mod unpacking;
 mod writing;
 

@@ -1,5 +1,7 @@
 // A token's flat listing read in place, seat by seat, with the attribute words of groups, and the
 // key of a SID by which seats are found. Of tokens only their listings are known here, and no lists.
+#![tactic(auto)]
+
 mod keys;
 mod seats;
 

@@ -1,4 +1,6 @@
 // The judge of a flat listing, and the two converters.
+#![tactic(auto)]
+
 mod flat;
 mod judging;
 mod pack;

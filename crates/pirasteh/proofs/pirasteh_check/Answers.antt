@@ -1,6 +1,5 @@
 -- `pirasteh_check` meets its contract: it tells the answer of `check`.
 -- Assumes nothing.
-use borrow.Author.Rules.{rules}
 use Rattle.pirasteh.proofs.ToldLaws.{told_of_lem}
 use Rattle.pirasteh.proofs.pirasteh_check.Goals as goal
 

@@ -1,6 +1,5 @@
 -- `pirasteh_list` meets its contract: it hands out what `to_listing` answers and writes.
 -- Assumes nothing.
-use borrow.Author.Rules.{rules}
 use Rattle.pirasteh.proofs.ToldLaws.{handed_made}
 use Rattle.pirasteh.proofs.pirasteh_list.Goals as goal
 

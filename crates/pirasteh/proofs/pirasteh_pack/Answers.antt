@@ -1,6 +1,5 @@
 -- `pirasteh_pack` meets its contract: it hands out what `to_record` answers and writes.
 -- Assumes nothing.
-use borrow.Author.Rules.{rules}
 use Rattle.pirasteh.proofs.ToldLaws.{handed_made}
 use Rattle.pirasteh.proofs.pirasteh_pack.Goals as goal
 

@@ -1,6 +1,5 @@
 -- `pirasteh_question` meets its contract: it tells the answer of `question`.
 -- Assumes nothing.
-use borrow.Author.Rules.{rules}
 use Rattle.pirasteh.proofs.ToldLaws.{told_of_lem}
 use Rattle.pirasteh.proofs.pirasteh_question.Goals as goal
 

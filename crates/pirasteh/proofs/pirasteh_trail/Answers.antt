@@ -1,6 +1,5 @@
 -- `pirasteh_trail` meets its contract: it tells the answer of `trail`, and the trail stands where that left it.
 -- Assumes nothing.
-use borrow.Author.Rules.{rules}
 use Rattle.pirasteh.proofs.ToldLaws.{followed_of}
 use Rattle.pirasteh.proofs.pirasteh_trail.Goals as goal
 

@@ -1,13 +1,9 @@
 -- `end` meets its contract. The loop's invariant: the list ends where the entries left from here do. The measure is how many these are.
 -- Assumes nothing.
-use Prim.Native.Nat.{ℕ, ◌+◌, ◌-◌, ◌≤◌}
-use mathlib.Core.Path.{◌≡◌, sym, ap, ◌∙◌}
-use native.Mathlib.Omega.{arith}
-use borrow.Author.Rules.{rules}
+use Prim.Native.Nat.{◌-◌, ◌≤◌}
+use mathlib.Core.Path.{◌≡◌}
 use Rattle.base.specs.Bytes.{u16_at}
-use Rattle.lists.specs.declared.acl.Ace.{Ace}
 use Rattle.reader.specs.Reading.{end_from}
-use Rattle.reader.proofs.StepLaws.{end_none, end-stop, end_more, end_left}
 use Rattle.reader.proofs.end.Given as goal
 
 abbrev pub invariant-loop-k : goal.invariant-loop-k

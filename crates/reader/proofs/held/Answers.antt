@@ -1,7 +1,6 @@
 -- `held` meets its contract: the part up to where `end` says.
 -- Assumes nothing.
 use mathlib.Core.Path.{◌∙◌}
-use borrow.Author.Rules.{rules}
 use Rattle.reader.proofs.StepLaws.{held_is}
 use Rattle.reader.proofs.held.Goals as goal
 

@@ -6,8 +6,6 @@ use native.Mathlib.Omega.{arith}
 use lib.Dec.{T}
 use lib.ListN.{length}
 use lib.Pow.{are_bytes}
-use borrow.Author.Rules.{rules}
-use borrow.Author.Tests.{not-true}
 use Rattle.base.proofs.BytesLaws.{bytes_of_lt, part_front}
 use Rattle.access.specs.Status.{Question}
 use Rattle.access.specs.Reported.{report_past}
@@ -33,7 +31,7 @@ bytes_at c =
     bytes_of_lt c.args.token.now (λ i l. omega (arith, c.type_inv.token i))
 
 pub returns-then-f-ne0 : goal.returns-then-f-ne0
-returns-then-f-ne0 c = 
+returns-then-f-ne0 c =
     let q = asked_of (goal.at.returns-then-f-ne0 c).Start in
     let a = c.args in
     lent_refused a.lent (length a.out.now) c.findings_in-f.result.status (report_past q) a.out.now _ _
@@ -41,7 +39,7 @@ returns-then-f-ne0 c =
     c.untraced.ensures.0 c.untraced.ensures.1 refl
 
 pub returns-then-not-is_asked : goal.returns-then-not-is_asked
-returns-then-not-is_asked c = 
+returns-then-not-is_asked c =
     let q = asked_of (goal.at.returns-then-not-is_asked c).Start in
     let a = c.args in
     lent-unasked q c.findings_in-f.result c.findings_in-f.ensures.value c.if-f-ne0.false a.lent (length a.out.now) a.out.now _ _
@@ -52,7 +50,7 @@ pub slice_bounds-audited-end : goal.slice_bounds-audited-end
 slice_bounds-audited-end c = omega (arith, c.findings_in-f.ensures.room_after.1)
 
 pub audited-requires : goal.audited-requires
-audited-requires c = 
+audited-requires c =
     let q = asked_of (goal.at.audited-requires c).Start in
     limits q c.findings_in-f.result c.findings_in-f.ensures.value c.if-f-ne0.false (bytes_at (goal.at.audited-requires c).After-findings_in-f) _
     (listing-held q c.findings_in-f.result c.findings_in-f.ensures.value c.if-f-ne0.false _ _ c.findings_in-f.ensures.room_after.0 (part_front _ c.findings_in-f.result.length))
@@ -61,7 +59,7 @@ pub shape_of-room : goal.shape_of-room
 shape_of-room c = c.room-1.given
 
 pub returns : goal.returns
-returns c = 
+returns c =
     let q = asked_of (goal.at.returns c).Start in
     let a = c.args in
     lent-audited q c.findings_in-f.result c.findings_in-f.ensures.value c.if-f-ne0.false a.lent (length a.out.now) a.out.now _ _

@@ -3,7 +3,6 @@
 use native.Mathlib.Omega.{arith}
 use lib.ListN.{length}
 use Rattle.records.proofs.RoomLaws.{fits_fourfold}
-use borrow.Author.Rules.{rules}
 use Rattle.access.proofs.answering.answered.Goals as goal
 
 pub answer_in-requires : goal.answer_in-requires

@@ -1,7 +1,5 @@
 -- `is_asked` meets its contract: each test is one of the definition.
 -- Assumes nothing.
-use borrow.Author.Rules.{rules}
-use borrow.Author.Tests.{not-true, not-false}
 use Rattle.access.proofs.answering.is_asked.Goals as goal
 
 pub returns-then-not-lent : goal.returns-then-not-lent

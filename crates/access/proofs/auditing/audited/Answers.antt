@@ -10,7 +10,6 @@ use native.Mathlib.Omega.{arith}
 use lib.Dec.{ltb}
 use lib.ListN.{length, length-replicate}
 use lib.Seq.{sets}
-use borrow.Author.Rules.{rules}
 use borrow.Author.Tests.{not-true, not-false}
 use Rattle.records.specs.Crowd.{user_place}
 use Rattle.passes.specs.Chains.{shown}
@@ -44,7 +43,7 @@ shown-trail c =
     c.hits-hits.result a.sacl.now (rules_by_lengths a.policy.now))
 
 pub returns-then-not-lent : goal.returns-then-not-lent
-returns-then-not-lent c = 
+returns-then-not-lent c =
     let a = c.args in
     let raised = raised-shown a.kind a.mask.0 a.listing.now a.owner.now a.me.now a.sacl.now
     (rules_by_lengths a.policy.now) a.a _ (alike_at (goal.at.returns-then-not-lent c).After-flagged-answer) c.hits-hits.result c.hits-hits.ensures _
@@ -54,7 +53,7 @@ returns-then-not-lent c =
     (c.flagged-answer.ensures ∙ ap (flagged a.a) (c.stages_audit-raised.ensures ∙ raised)) refl refl
 
 pub returns-then-not-t : goal.returns-then-not-t
-returns-then-not-t c = 
+returns-then-not-t c =
     let a = c.args in
     let sought = sought_made a.kind a.mask.0 a.a c.explicit-bits.result c.explicit-bits.ensures in
     let trail = trail-shown a.kind a.mask.0 a.listing.now a.owner.now a.me.now a.sacl.now
@@ -67,7 +66,7 @@ returns-then-not-t c =
     (noted-short (length a.out.now) a.out.now _ _ (shown-trail (goal.at.returns-then-not-t c).After-flagged-answer) c.report-t.ensures.noted short)
 
 pub returns : goal.returns
-returns c = 
+returns c =
     let a = c.args in
     let sought = sought_made a.kind a.mask.0 a.a c.explicit-bits.result c.explicit-bits.ensures in
     let trail = trail-shown a.kind a.mask.0 a.listing.now a.owner.now a.me.now a.sacl.now

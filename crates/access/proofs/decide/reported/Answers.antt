@@ -4,8 +4,6 @@
 use mathlib.Core.Path.{◌≡◌, refl, sym, ◌∙◌}
 use mathlib.Core.Bool.{true}
 use lib.ListN.{length}
-use borrow.Author.Rules.{rules}
-use borrow.Author.Tests.{not-true, not-false}
 use Rattle.masks.specs.KindsAndMasks.{known_kind}
 use Rattle.access.specs.Status.{Question}
 use Rattle.access.specs.Reported.{report_of}
@@ -33,7 +31,7 @@ kind_at : (c : Else-not-is_kind) → known_kind (asked_of (up-1 c)).kind ≡ tru
 kind_at c = sym c.is_kind.ensures ∙ c.if-not-is_kind.false
 
 pub returns-then-not-is_kind : goal.returns-then-not-is_kind
-returns-then-not-is_kind c = 
+returns-then-not-is_kind c =
     let a = c.args in
     let q = asked_of (goal.at.returns-then-not-is_kind c).Start in
     lent_refused a.lent (length a.out.now) 1 (report_of q) a.out.now _ _
@@ -41,7 +39,7 @@ returns-then-not-is_kind c =
     c.untraced.ensures.0 c.untraced.ensures.1 refl
 
 pub returns-then-not-legal : goal.returns-then-not-legal
-returns-then-not-legal c = 
+returns-then-not-legal c =
     let a = c.args in
     let q = asked_of (goal.at.returns-then-not-legal c).Start in
     lent_refused a.lent (length a.out.now) 2 (report_of q) a.out.now _ _
@@ -49,6 +47,6 @@ returns-then-not-legal c =
     c.untraced-then-not-legal.ensures.0 c.untraced-then-not-legal.ensures.1 refl
 
 pub returns : goal.returns
-returns c = 
+returns c =
     let q = asked_of (goal.at.returns c).Start in
     rw (report-past q (kind_at (goal.at.returns c).Else-not-is_kind) (sym c.legal.ensures ∙ c.if-not-legal.false)) c.answered.ensures

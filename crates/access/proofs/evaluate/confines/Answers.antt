@@ -11,6 +11,6 @@ pub returns-then-flags-eq0 : goal.returns-then-flags-eq0
 returns-then-flags-eq0 c = simp (eq-eqb (bit_and c.args.flags 1) 0 c.if-flags-eq0.true)
 
 pub returns : goal.returns
-returns c = 
+returns c =
     let f = c.args.flags in
     rw (ne_eqb (bit_and f 1) 0 c.if-flags-eq0.false) (sym (not-not (eqb (bit_and f 2) 0)))

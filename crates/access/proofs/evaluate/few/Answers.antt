@@ -1,7 +1,6 @@
 -- `few` meets its contract: the one crowd, then the other.
 -- Assumes nothing.
 use mathlib.Core.Path.{sym, ◌∙◌}
-use borrow.Author.Rules.{rules}
 use Rattle.access.proofs.evaluate.few.Goals as goal
 
 pub returns-then-few_beside : goal.returns-then-few_beside

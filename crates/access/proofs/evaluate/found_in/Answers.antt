@@ -3,7 +3,6 @@
 use mathlib.Core.Path.{sym, ◌∙◌}
 use native.Mathlib.Omega.{arith}
 use Rattle.access.proofs.SeatingLaws.{few_seatable}
-use borrow.Author.Rules.{rules}
 use Rattle.access.proofs.evaluate.found_in.Goals as goal
 
 pub found_with-requires : goal.found_with-requires

@@ -7,14 +7,13 @@ use mathlib.Core.Bool.{true}
 use Rattle.records.specs.Crowd.{user_place}
 use Rattle.policy.specs.ByLengths.{rules_by_lengths}
 use Rattle.access.proofs.EvaluatingSteps.{crowd-shown, normal-walked, rules-shown, found-made}
-use borrow.Author.Rules.{rules}
 use Rattle.access.proofs.evaluate.found_with.Goals as goal
 
 pub shape_of-seats : goal.shape_of-seats
 shape_of-seats c = c.seats-2-1.given ∙ c.seats-1.given
 
 pub returns : goal.returns
-returns c = 
+returns c =
     let a = c.args in
     let l = a.listing.now in
     let long = c.seats-1.given in

@@ -9,7 +9,6 @@ use lib.Dec.{T}
 use lib.ListN.{length}
 use lib.Pow.{are_bytes}
 use borrow.Author.Rules.{rules}
-use borrow.Author.Tests.{not-true, not-false}
 use Rattle.base.specs.Bytes.{part}
 use Rattle.base.proofs.BytesLaws.{bytes_of_lt}
 use Rattle.lists.specs.Descriptor as descriptor
@@ -25,10 +24,10 @@ use Rattle.access.proofs.finding.findings_in.Goals.{After-list_in-listed, After-
 
 -- what was known earlier, as a place of its own
 abbrev up-1 : Else-listed-ne0 → After-list_in-listed
-up-1 c = record { before = c.before.before.before.before.before; type_inv = record { policy = c.shared_slice_known-4-1.given; descriptor = c.shared_slice_known-3-1.given; me = c.shared_slice_known-2-1.given; token = c.shared_slice_known-1.given; } }
+up-1 c = record { before = c.before.before.before.before.before; type_inv = record { policy = c.shared_slice_known-4-1.given; descriptor = c.shared_slice_known-3-1.given; me = c.shared_slice_known-2-1.given; token = c.shared_slice_known-1.given } }
 
 abbrev up-2 : Else-verdict-ne0 → After-verdict_number-verdict
-up-2 c = record { before = c.before.before; type_inv = record { room = c.slice_known-2-1.given; policy = c.shared_slice_known-4-1.given; descriptor = c.shared_slice_known-3-1.given; me = c.shared_slice_known-2-1.given; token = c.shared_slice_known-1.given; } }
+up-2 c = record { before = c.before.before; type_inv = record { room = c.slice_known-2-1.given; policy = c.shared_slice_known-4-1.given; descriptor = c.shared_slice_known-3-1.given; me = c.shared_slice_known-2-1.given; token = c.shared_slice_known-1.given } }
 
 listed : (c : After-list_in-listed) →
     Listed c.args.token.now c.list_in-listed.result c.list_in-listed.new.room
@@ -62,42 +61,54 @@ standing_at c = c.standing_number-standing.ensures ∙ ap policy.number_of c.jud
 
 -- ---- the needs
 pub returns-then-listed-ne0 : goal.returns-then-listed-ne0
-returns-then-listed-ne0 c = 
+returns-then-listed-ne0 c =
     let a = c.args in
-    record { value = c.stopped.ensures
+    record {
+      value = c.stopped.ensures
           ∙ sym
           (token_refused a.kind a.token.now a.me.now a.descriptor.now a.policy.now c.list_in-listed.result _ (listed (goal.at.returns-then-listed-ne0 c).After-list_in-listed)
-          c.if-listed-ne0.true); room_after = stopped_room c.list_in-listed.result.status c.stopped.result _ a.token.now c.stopped.ensures c.if-listed-ne0.true; }
+          c.if-listed-ne0.true);
+      room_after = stopped_room c.list_in-listed.result.status c.stopped.result _ a.token.now c.stopped.ensures c.if-listed-ne0.true;
+    }
 
 pub returns-then-not-self_fits : goal.returns-then-not-self_fits
-returns-then-not-self_fits c = 
+returns-then-not-self_fits c =
     let a = c.args in
     let t = token_at (goal.at.returns-then-not-self_fits c).Else-listed-ne0 in
-    record { value = c.stopped-then-not-self_fits.ensures
+    record {
+      value = c.stopped-then-not-self_fits.ensures
           ∙ sym (findings-self a.kind a.token.now a.me.now a.descriptor.now a.policy.now
-          t.token t.end t.read t.kept (sym c.self_fits.ensures ∙ c.if-not-self_fits.true)); room_after = stopped_room 5 c.stopped-then-not-self_fits.result _ a.token.now c.stopped-then-not-self_fits.ensures (λ z. omega arith); }
+          t.token t.end t.read t.kept (sym c.self_fits.ensures ∙ c.if-not-self_fits.true));
+      room_after = stopped_room 5 c.stopped-then-not-self_fits.result _ a.token.now c.stopped-then-not-self_fits.ensures (λ z. omega arith);
+    }
 
 pub returns-then-verdict-ne0 : goal.returns-then-verdict-ne0
-returns-then-verdict-ne0 c = 
+returns-then-verdict-ne0 c =
     let n = number_at (goal.at.returns-then-verdict-ne0 c).After-verdict_number-verdict in
     let a = c.args in
     let t = token_at (goal.at.returns-then-verdict-ne0 c).Else-listed-ne0 in
-    record { value = c.stopped-then-verdict-ne0.ensures
+    record {
+      value = c.stopped-then-verdict-ne0.ensures
           ∙ rw n (sym (findings-descriptor a.kind a.token.now a.me.now a.descriptor.now a.policy.now
-          t.token t.end t.read t.kept (self_at (goal.at.returns-then-verdict-ne0 c).Else-not-self_fits) (λ z. c.if-verdict-ne0.true (n ∙ z)))); room_after = stopped_room _ c.stopped-then-verdict-ne0.result _ a.token.now c.stopped-then-verdict-ne0.ensures c.if-verdict-ne0.true; }
+          t.token t.end t.read t.kept (self_at (goal.at.returns-then-verdict-ne0 c).Else-not-self_fits) (λ z. c.if-verdict-ne0.true (n ∙ z))));
+      room_after = stopped_room _ c.stopped-then-verdict-ne0.result _ a.token.now c.stopped-then-verdict-ne0.ensures c.if-verdict-ne0.true;
+    }
 
 pub shape_of-room-then-standing-ne0 : goal.shape_of-room-then-standing-ne0
 shape_of-room-then-standing-ne0 c = long_at (goal.at.shape_of-room-then-standing-ne0 c).Else-listed-ne0
 
 pub returns-then-standing-ne0 : goal.returns-then-standing-ne0
-returns-then-standing-ne0 c = 
+returns-then-standing-ne0 c =
     let n = standing_at (goal.at.returns-then-standing-ne0 c).After-standing_number-standing in
     let a = c.args in
     let t = token_at (goal.at.returns-then-standing-ne0 c).Else-listed-ne0 in
-    record { value = c.stopped-then-standing-ne0.ensures
+    record {
+      value = c.stopped-then-standing-ne0.ensures
           ∙ rw n
           (sym (findings-policy a.kind a.token.now a.me.now a.descriptor.now a.policy.now
-          t.token t.end t.read t.kept (self_at (goal.at.returns-then-standing-ne0 c).Else-not-self_fits) (whole_at (goal.at.returns-then-standing-ne0 c).Else-verdict-ne0) (λ z. c.if-standing-ne0.true (n ∙ z)))); room_after = stopped_room _ c.stopped-then-standing-ne0.result _ a.token.now c.stopped-then-standing-ne0.ensures c.if-standing-ne0.true; }
+          t.token t.end t.read t.kept (self_at (goal.at.returns-then-standing-ne0 c).Else-not-self_fits) (whole_at (goal.at.returns-then-standing-ne0 c).Else-verdict-ne0) (λ z. c.if-standing-ne0.true (n ∙ z))));
+      room_after = stopped_room _ c.stopped-then-standing-ne0.result _ a.token.now c.stopped-then-standing-ne0.ensures c.if-standing-ne0.true;
+    }
 
 pub cut-owner-requires : goal.cut-owner-requires
 cut-owner-requires c = c.read-parts.ensures.inside.owner
@@ -109,7 +120,7 @@ pub slice_bounds-found_in-end : goal.slice_bounds-found_in-end
 slice_bounds-found_in-end c = omega (arith, long_at (goal.at.slice_bounds-found_in-end c).Else-listed-ne0, c.list_in-listed.ensures.length_in_bounds.0)
 
 pub found_in-found-requires : goal.found_in-found-requires
-found_in-found-requires c = 
+found_in-found-requires c =
     let h = held_limits _ c.list_in-listed.result _ (token_at (goal.at.found_in-found-requires c).Else-listed-ne0) (bytes_at (goal.at.found_in-found-requires c).Else-listed-ne0) _ (part_front c.list_in-listed.new.room c.list_in-listed.result.length) in
     (omega (arith, h.0), (omega arith, (omega (arith, h.1.0), omega (arith, h.1.1))))
 
@@ -117,7 +128,7 @@ pub shape_of-room : goal.shape_of-room
 shape_of-room c = long_at (goal.at.shape_of-room c).Else-listed-ne0
 
 pub returns : goal.returns
-returns c = 
+returns c =
     let a = c.args in
     let t = token_at (goal.at.returns c).Else-listed-ne0 in
     let sound = sym (standing_at (goal.at.returns c).After-standing_number-standing) ∙ c.if-standing-ne0.false in
@@ -131,6 +142,9 @@ returns c =
     in
     let o = listed (goal.at.returns c).After-list_in-listed in
     let long = o.long ∙ sym (ap length o.bytes) ∙ ap length t.bytes in
-    record { value = findings_made _ t.token d c.read-parts.result found long c.read-parts.ensures.value
+    record {
+      value = findings_made _ t.token d c.read-parts.result found long c.read-parts.ensures.value
           ∙ sym (findings-found a.kind a.token.now a.me.now a.descriptor.now a.policy.now
-          t.token t.end t.read t.kept (self_at (goal.at.returns c).Else-not-self_fits) (whole_at (goal.at.returns c).Else-verdict-ne0) sound); room_after = ((λ z. o.bytes), omega (arith, long_at (goal.at.returns c).Else-listed-ne0, c.list_in-listed.ensures.length_in_bounds.0)); }
+          t.token t.end t.read t.kept (self_at (goal.at.returns c).Else-not-self_fits) (whole_at (goal.at.returns c).Else-verdict-ne0) sound);
+      room_after = ((λ z. o.bytes), omega (arith, long_at (goal.at.returns c).Else-listed-ne0, c.list_in-listed.ensures.length_in_bounds.0));
+    }

@@ -1,6 +1,5 @@
 -- `self_fits` meets its contract: the test of the length is that of the definition.
 -- Assumes nothing.
-use borrow.Author.Rules.{rules}
 use borrow.Author.Tests.{eq-eqb, ne_eqb}
 use Rattle.access.specs.Status.{self_fits}
 use Rattle.access.proofs.finding.self_fits.Goals as goal

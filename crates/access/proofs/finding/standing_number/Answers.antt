@@ -1,6 +1,5 @@
 -- `standing_number` meets its contract: each arm is a line of the definition.
 -- Assumes nothing.
-use borrow.Author.Rules.{rules}
 use Rattle.policy.specs.Policy as policy
 use Rattle.access.proofs.finding.standing_number.Goals as goal
 

@@ -1,6 +1,5 @@
 -- `verdict_number` meets its contract: each arm is a line of the definition.
 -- Assumes nothing.
-use borrow.Author.Rules.{rules}
 use Rattle.lists.specs.Descriptor as descriptor
 use Rattle.access.proofs.finding.verdict_number.Goals as goal
 

@@ -1,6 +1,5 @@
 -- `read_off` meets its contract: the asked bits and the answer on them are the callees'.
 -- Assumes nothing.
-use borrow.Author.Rules.{rules}
 use Rattle.answers.specs.Granted.{answer_of}
 use Rattle.answers.proofs.answer.read_off.Goals as goal
 

@@ -1,15 +1,15 @@
 -- `put_list` meets its contract. The loop's invariant: noting all events at `o` is noting those of the entries ahead at `to` (Ahead). The
 -- measure is the number of entries ahead. Assumes nothing.
-use Prim.Native.Nat.{◌+◌, ◌-◌, ◌*◌, ◌≤◌, ◌<◌}
+use Prim.Native.Nat.{◌+◌, ◌≤◌, ◌<◌}
 use mathlib.Core.List.{List}
 use native.Mathlib.Omega.{arith}
 use borrow.Author.Rules.{rules}
 use borrow.Author.Tests.{not-true, not-false}
 use Rattle.passes.specs.Chains.{shown}
 use Rattle.records.specs.Crowd.{Member}
-use Rattle.audit.specs.Events.{event, events_in}
-use Rattle.audit.specs.Trail.{event_bytes, trail_bytes}
-use Rattle.audit.proofs.NotingLaws.{Ahead, ahead_start, ahead-long, ahead-room, ahead_step, ahead-done}
+use Rattle.audit.specs.Events.{event}
+use Rattle.audit.specs.Trail.{event_bytes}
+use Rattle.audit.proofs.NotingLaws.{ahead_start, ahead-long, ahead-room, ahead_step, ahead-done}
 use Rattle.audit.proofs.PuttingSteps.{ListLeft, list-start, list-none, list-some, list_on}
 use Rattle.audit.proofs.putting.put_list.Goals as goal
 use Rattle.audit.proofs.putting.put_list.Goals.{Else-not-f, Start}
@@ -32,9 +32,8 @@ goes_on c =
     (not-false c.next_fired-f.result.found c.if-not-f.false)
 
 pub loop-sought-init : goal.loop-sought-init
-loop-sought-init c = 
-    let a = c.args in
-    (
+loop-sought-init c =
+    let a = c.args in (
       ahead_start a.write a.out.now a.o _ _
           (list-start a.sought (members (goal.at.loop-sought-init c).Start) a.hits a.source a.list.now c.u16_at-n.result c.u16_at-n.ensures.value),
       omega arith,
@@ -45,14 +44,17 @@ pub shape_of-out-then-not-f : goal.shape_of-out-then-not-f
 shape_of-out-then-not-f c = ahead-long c.loop-sought.invariant.0
 
 pub returns-then-not-f : goal.returns-then-not-f
-returns-then-not-f c = 
+returns-then-not-f c =
     let a = c.args in
-    record { noted = ahead-done c.loop-sought.invariant.0
+    record {
+      noted = ahead-done c.loop-sought.invariant.0
           (list-none a.sought (members (goal.at.returns-then-not-f c).Start) a.hits a.source a.list.now c.u16_at-n.result c.loop-sought.k c.loop-sought.at c.next_fired-f.result c.next_fired-f.ensures
-          (not-true c.next_fired-f.result.found c.if-not-f.true)); upper_bound = omega (arith, c.loop-sought.invariant.1, c.loop-sought.invariant.2, c.u16_at-n.ensures.upper_bound); }
+          (not-true c.next_fired-f.result.found c.if-not-f.true));
+      upper_bound = omega (arith, c.loop-sought.invariant.1, c.loop-sought.invariant.2, c.u16_at-n.ensures.upper_bound);
+    }
 
 pub put_event-to-requires : goal.put_event-to-requires
-put_event-to-requires c = 
+put_event-to-requires c =
     let a = c.args in (
       omega (arith, c.loop-sought.invariant.1, c.loop-sought.invariant.2, c.u16_at-n.ensures.upper_bound, c.requires.0),
       ahead-room c.loop-sought.invariant.0 (event_bytes (event a.source c.next_fired-f.result.entry c.next_fired-f.result.mask.0))
@@ -68,7 +70,7 @@ pub loop-sought-smaller : goal.loop-sought-smaller
 loop-sought-smaller c = let o = goes_on (goal.at.loop-sought-smaller c).Else-not-f in omega (arith, o.0, o.1)
 
 pub loop-sought-preserved : goal.loop-sought-preserved
-loop-sought-preserved c = 
+loop-sought-preserved c =
     let o = goes_on (goal.at.loop-sought-preserved c).Else-not-f in
     let e = c.put_event-to.ensures in
     let a = c.args in (

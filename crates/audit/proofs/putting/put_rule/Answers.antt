@@ -3,7 +3,6 @@
 use mathlib.Core.Path.{sym}
 use mathlib.Core.List.{List}
 use native.Mathlib.Omega.{arith}
-use borrow.Author.Rules.{rules}
 use Rattle.records.specs.Crowd.{Member}
 use Rattle.passes.specs.Chains.{shown}
 use Rattle.policy.specs.ByLengths.{lists_by_lengths}
@@ -17,25 +16,31 @@ abbrev members : Start → List Member
 members z = shown z.args.heads.now z.args.seats.now z.args.listing.now
 
 pub returns-then-to-from : goal.returns-then-to-from
-returns-then-to-from c = 
+returns-then-to-from c =
     let a = c.args in
-    record { noted = noted_same
+    record {
+      noted = noted_same
           (sym
           (rule-empty a.sought (members (goal.at.returns-then-to-from c).Start) a.hits a.source (lists_by_lengths a.s.now a.r)
           (section_empty a.s.now a.r.sacl.from a.r.sacl.to c.if-to-from.true)))
-          (noted_none a.write a.out.now a.o); upper_bound = omega arith; }
+          (noted_none a.write a.out.now a.o);
+      upper_bound = omega arith;
+    }
 
 pub returns-then-not-admits : goal.returns-then-not-admits
-returns-then-not-admits c = 
+returns-then-not-admits c =
     let a = c.args in
-    record { noted = noted_same
+    record {
+      noted = noted_same
           (sym
           (rule-passed a.sought (members (goal.at.returns-then-not-admits c).Start) a.hits a.source (lists_by_lengths a.s.now a.r)
           c.admits.result c.admits.ensures (ap not c.if-not-admits.true)))
-          (noted_none a.write a.out.now a.o); upper_bound = omega arith; }
+          (noted_none a.write a.out.now a.o);
+      upper_bound = omega arith;
+    }
 
 pub put_list-requires : goal.put_list-requires
-put_list-requires c = 
+put_list-requires c =
     let a = c.args in (
       c.requires.o_bound.0,
       room_same a.out.now a.o
@@ -46,10 +51,13 @@ put_list-requires c =
     )
 
 pub returns : goal.returns
-returns c = 
+returns c =
     let a = c.args in
     let e = c.put_list.ensures in
-    record { noted = noted_same
+    record {
+      noted = noted_same
           (rule-applies a.sought (members (goal.at.returns c).Start) a.hits a.source (lists_by_lengths a.s.now a.r)
           c.admits.result c.admits.ensures (ap not c.if-not-admits.false))
-          e.noted; upper_bound = e.upper_bound; }
+          e.noted;
+      upper_bound = e.upper_bound;
+    }

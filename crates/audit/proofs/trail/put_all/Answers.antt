@@ -4,7 +4,6 @@ use mathlib.Core.Path.{◌≡◌, sym}
 use mathlib.Core.List.{List, ◌++◌}
 use native.Mathlib.Omega.{arith}
 use Prim.Native.Nat.{ℕ}
-use borrow.Author.Rules.{rules}
 use Rattle.passes.specs.Chains.{shown}
 use Rattle.policy.specs.ByLengths.{rules_by_lengths}
 use Rattle.audit.specs.Events.{events_in, rules_events, events_of}
@@ -41,12 +40,12 @@ parted z =
     (rules_by_lengths a.policy.now)
 
 pub put_list-o-requires : goal.put_list-o-requires
-put_list-o-requires c = 
+put_list-o-requires c =
     let out = c.args.out.now in
     (omega arith, room_first out 0 (first (goal.at.put_list-o-requires c).Start) (second (goal.at.put_list-o-requires c).Start) (room_same out 0 (parted (goal.at.put_list-o-requires c).Start) c.requires))
 
 pub put_rules-requires : goal.put_rules-requires
-put_rules-requires c = 
+put_rules-requires c =
     let e = c.put_list-o.ensures in
     (omega (arith, e.upper_bound), room_second {v = first (goal.at.put_rules-requires c).Start} (second (goal.at.put_rules-requires c).Start) e.noted (room_same c.args.out.now 0 (parted (goal.at.put_rules-requires c).Start) c.requires))
 

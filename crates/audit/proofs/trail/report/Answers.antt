@@ -3,7 +3,6 @@
 -- the bytes of all events
 use mathlib.Core.List.{List}
 use Prim.Native.Nat.{ℕ}
-use borrow.Author.Rules.{rules}
 use Rattle.passes.specs.Chains.{shown}
 use Rattle.policy.specs.ByLengths.{rules_by_lengths}
 use Rattle.audit.specs.Events.{events_of}
@@ -23,13 +22,13 @@ pub put_all-n-requires : goal.put_all-n-requires
 put_all-n-requires c = room_none c.args.out.now 0 (whole (goal.at.put_all-n-requires c).Start)
 
 pub returns-then-n-eq0 : goal.returns-then-n-eq0
-returns-then-n-eq0 c = let whole = measured-nothing c.put_all-n.ensures c.if-n-eq0.true in record { fits_value = whole.0; noted = whole.1; }
+returns-then-n-eq0 c = let whole = measured-nothing c.put_all-n.ensures c.if-n-eq0.true in record { fits_value = whole.0; noted = whole.1 }
 
 pub returns-then-out-n : goal.returns-then-out-n
-returns-then-out-n c = let whole = measured-none c.put_all-n.ensures c.if-out-n.true in record { fits_value = whole.0; noted = whole.1; }
+returns-then-out-n c = let whole = measured-none c.put_all-n.ensures c.if-out-n.true in record { fits_value = whole.0; noted = whole.1 }
 
 pub put_all-requires : goal.put_all-requires
 put_all-requires c = measured-room c.put_all-n.ensures c.if-out-n.false
 
 pub returns : goal.returns
-returns c = let whole = measured-all {w = whole (goal.at.returns c).Start} c.put_all-n.ensures c.if-out-n.false c.put_all.ensures in record { fits_value = whole.0; noted = whole.1; }
+returns c = let whole = measured-all {w = whole (goal.at.returns c).Start} c.put_all-n.ensures c.if-out-n.false c.put_all.ensures in record { fits_value = whole.0; noted = whole.1 }

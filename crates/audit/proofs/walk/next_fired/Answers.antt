@@ -1,15 +1,12 @@
 -- `next_fired` meets its contract. The loop's invariant: the first that fires of all is the first of those ahead. The measure is how many
 -- entries are ahead. Assumes nothing.
-use Prim.Native.Nat.{◌-◌}
-use mathlib.Core.Path.{◌≡◌, refl, sym, ◌∙◌}
-use borrow.Author.Rules.{rules}
+use mathlib.Core.Path.{sym, ◌∙◌}
 use Rattle.passes.specs.Chains.{shown}
-use Rattle.audit.specs.Walking.{fired_from}
 use Rattle.audit.proofs.WalkingLaws.{fired-end, fired-stop, fired-here, fired-on}
 use Rattle.audit.proofs.walk.next_fired.Goals as goal
 
 pub returns-then-next-eq0 : goal.returns-then-next-eq0
-returns-then-next-eq0 c = 
+returns-then-next-eq0 c =
     let a = c.args in
     c.none_fired.ensures
     ∙ sym (c.loop-k.invariant
@@ -17,7 +14,7 @@ returns-then-next-eq0 c =
     c.loop-k.at c.spot_at-x.result c.loop-k-test.true c.spot_at-x.ensures.value c.if-next-eq0.true)
 
 pub returns-then-fires : goal.returns-then-fires
-returns-then-fires c = 
+returns-then-fires c =
     let a = c.args in
     sym (c.loop-k.invariant
     ∙ fired-here a.sought (shown a.heads.now a.seats.now a.listing.now) a.hits a.list.now a.n c.loop-k.k
@@ -25,7 +22,7 @@ returns-then-fires c =
     (sym c.fires.ensures ∙ c.if-fires.true))
 
 pub loop-k-preserved : goal.loop-k-preserved
-loop-k-preserved c = 
+loop-k-preserved c =
     let a = c.args in
     c.loop-k.invariant
     ∙ fired-on a.sought (shown a.heads.now a.seats.now a.listing.now) a.hits a.list.now a.n c.loop-k.k
@@ -33,7 +30,7 @@ loop-k-preserved c =
     (sym c.fires.ensures ∙ c.if-fires.false)
 
 pub returns : goal.returns
-returns c = 
+returns c =
     let a = c.args in
     c.none_fired-2.ensures
     ∙ sym (c.loop-k.invariant

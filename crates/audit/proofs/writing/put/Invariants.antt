@@ -1,12 +1,7 @@
 -- `put` meets its contract. The loop's invariant: noting the number at `o` is noting the groups that are left at `i` (Packs). The measure
 -- is the number that is left. Assumes nothing.
 use Prim.Native.Nat.{◌+◌, ◌^◌, ◌<◌}
-use native.Mathlib.Omega.{arith}
-use borrow.Author.Rules.{rules}
-use lib.ListN.{length}
-use Rattle.base.specs.Sevens.{packed}
-use Rattle.base.proofs.SevensLaws.{packed_length_64}
-use Rattle.audit.proofs.NotingLaws.{Packs, packs_start, packs-place, packs-room, packs-more, packs-last, noted_long}
+use Rattle.audit.proofs.NotingLaws.{Packs}
 use Rattle.audit.proofs.writing.put.Given as goal
 
 abbrev pub invariant-loop-n : goal.invariant-loop-n

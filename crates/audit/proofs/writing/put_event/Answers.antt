@@ -1,21 +1,20 @@
 -- `put_event` meets its contract: three numbers, one after the other. Assumes nothing.
 use mathlib.Core.List.{◌++◌}
 use native.Mathlib.Omega.{arith}
-use borrow.Author.Rules.{rules}
 use Rattle.base.specs.Sevens.{packed}
 use Rattle.base.proofs.SevensLaws.{packed_length_32}
 use Rattle.audit.proofs.NotingLaws.{noted_both, room_first, room_second}
 use Rattle.audit.proofs.writing.put_event.Goals as goal
 
 pub put-a-requires : goal.put-a-requires
-put-a-requires c = 
+put-a-requires c =
     let a = c.args in (
       omega (arith, c.requires.0),
       room_first a.out.now a.o (packed a.source) (packed a.entry ++ packed a.mask.0) c.requires.1,
     )
 
 pub put-b-requires : goal.put-b-requires
-put-b-requires c = 
+put-b-requires c =
     let a = c.args in (
       omega (arith, c.requires.0, c.put-a.ensures.place, packed_length_32 a.source c.ranges.source.fits),
       room_first c.put-a.new.out c.put-a.result (packed a.entry) (packed a.mask.0)
@@ -23,7 +22,7 @@ put-b-requires c =
     )
 
 pub put-requires : goal.put-requires
-put-requires c = 
+put-requires c =
     let a = c.args in (
       omega (
         arith,
@@ -38,9 +37,11 @@ put-requires c =
     )
 
 pub returns : goal.returns
-returns c = 
+returns c =
     let a = c.args in
-    record { noted = noted_both c.put-a.ensures (noted_both c.put-b.ensures c.put.ensures); upper_bound = omega (
+    record {
+      noted = noted_both c.put-a.ensures (noted_both c.put-b.ensures c.put.ensures);
+      upper_bound = omega (
         arith,
         c.put-a.ensures.place,
         c.put-b.ensures.place,
@@ -48,4 +49,5 @@ returns c =
         packed_length_32 a.source c.ranges.source.fits,
         packed_length_32 a.entry c.ranges.entry.fits,
         packed_length_32 a.mask.0 (omega (arith, c.struct_known-1.given)),
-      ); }
+      );
+    }

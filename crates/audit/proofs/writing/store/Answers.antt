@@ -3,7 +3,6 @@ use mathlib.Core.Path.{◌≡◌}
 use mathlib.Core.List.{List}
 use mathlib.Core.Bool.{Bool, true, cond}
 use Prim.Native.Nat.{ℕ}
-use borrow.Author.Rules.{rules}
 use Rattle.audit.proofs.writing.store.Goals as goal
 
 where_written : (t : Bool) (l k : List ℕ) → t ≡ true → k ≡ cond t k l

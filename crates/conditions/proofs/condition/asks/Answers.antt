@@ -9,19 +9,19 @@ pub returns-then-b-eq139 : goal.returns-then-b-eq139
 returns-then-b-eq139 c = rw (ne_eqb c.args.b 0x89 c.if-b-eq137.false, eq-eqb c.args.b 0x8b c.if-b-eq139.true)
 
 pub returns-then-b-eq144 : goal.returns-then-b-eq144
-returns-then-b-eq144 c = 
+returns-then-b-eq144 c =
     rw (
-  ne_eqb c.args.b 0x89 c.if-b-eq137.false,
-  ne_eqb
-      c.args.b 0x8b c.if-b-eq139.false,
-  eq-eqb c.args.b 0x90 c.if-b-eq144.true,
-)
+      ne_eqb c.args.b 0x89 c.if-b-eq137.false,
+      ne_eqb
+          c.args.b 0x8b c.if-b-eq139.false,
+      eq-eqb c.args.b 0x90 c.if-b-eq144.true,
+    )
 
 pub returns : goal.returns
-returns c = 
+returns c =
     rw (
-  ne_eqb c.args.b 0x89 c.if-b-eq137.false,
-  ne_eqb
-      c.args.b 0x8b c.if-b-eq139.false,
-  ne_eqb c.args.b 0x90 c.if-b-eq144.false,
-)
+      ne_eqb c.args.b 0x89 c.if-b-eq137.false,
+      ne_eqb
+          c.args.b 0x8b c.if-b-eq139.false,
+      ne_eqb c.args.b 0x90 c.if-b-eq144.false,
+    )

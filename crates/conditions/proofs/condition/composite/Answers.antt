@@ -8,32 +8,31 @@ use Rattle.conditions.specs.Stack.{step_of}
 use Rattle.conditions.specs.declared.scan.Scan.{Scan}
 use Rattle.conditions.proofs.OperandLaws.{enclosed-bounds}
 use Rattle.conditions.proofs.StackLaws.{composite-broken, composite-given}
-use borrow.Author.Rules.{rules}
 use Rattle.conditions.proofs.condition.composite.Goals as goal
 
 pub returns-then-e-eq0 : goal.returns-then-e-eq0
 returns-then-e-eq0 c = λ st q. let a = c.args in sym (ap step_of (composite-broken a.s.now a.at st (omega arith)))
 
 pub overflow_add-from : goal.overflow_add-from
-overflow_add-from c = 
+overflow_add-from c =
     let a = c.args in
     let b = enclosed-bounds a.s.now a.at (λ q. c.if-e-eq0.false (c.enclosed_end-e.ensures.value ∙ q)) in
     omega (arith, b.0, b.1)
 
 pub slice_bounds-literals-count : goal.slice_bounds-literals-count
-slice_bounds-literals-count c = 
+slice_bounds-literals-count c =
     let a = c.args in
     let b = enclosed-bounds a.s.now a.at (λ q. c.if-e-eq0.false (c.enclosed_end-e.ensures.value ∙ q)) in
     omega (arith, b.0, b.1)
 
 pub slice_bounds-literals-start : goal.slice_bounds-literals-start
-slice_bounds-literals-start c = 
+slice_bounds-literals-start c =
     let a = c.args in
     let b = enclosed-bounds a.s.now a.at (λ q. c.if-e-eq0.false (c.enclosed_end-e.ensures.value ∙ q)) in
     omega (arith, b.0, b.1)
 
 pub returns-in-Broken : goal.returns-in-Broken
-returns-in-Broken c = 
+returns-in-Broken c =
     λ st q.
     let a = c.args in
     let e = c.enclosed_end-e.ensures.value in
@@ -43,7 +42,7 @@ returns-in-Broken c =
     ∙ sym (ap step_of (composite-given a.s.now a.at st n e c.if-e-eq0.false))
 
 pub returns-in-Foreign : goal.returns-in-Foreign
-returns-in-Foreign c = 
+returns-in-Foreign c =
     λ st q.
     let a = c.args in
     let e = c.enclosed_end-e.ensures.value in
@@ -53,7 +52,7 @@ returns-in-Foreign c =
     ∙ sym (ap step_of (composite-given a.s.now a.at st n e c.if-e-eq0.false))
 
 pub returns-in-Plain : goal.returns-in-Plain
-returns-in-Plain c = 
+returns-in-Plain c =
     λ st q.
     let a = c.args in
     let e = c.enclosed_end-e.ensures.value in

@@ -2,25 +2,24 @@
 use mathlib.Core.Path.{sym}
 use native.Mathlib.Omega.{arith}
 use Rattle.conditions.proofs.OperandLaws.{enclosed-short, enclosed-cut, enclosed-whole}
-use borrow.Author.Rules.{rules}
 use Rattle.conditions.proofs.condition.enclosed_end.Goals as goal
 
 pub returns-then-s-lt5 : goal.returns-then-s-lt5
-returns-then-s-lt5 c = 
+returns-then-s-lt5 c =
     let a = c.args in
-    record { value = sym (enclosed-short a.s.now a.at (omega arith)); upper_bound = omega arith; }
+    record { value = sym (enclosed-short a.s.now a.at (omega arith)); upper_bound = omega arith }
 
 pub returns-then-s-at : goal.returns-then-s-at
-returns-then-s-at c = 
+returns-then-s-at c =
     let a = c.args in
-    record { value = sym (enclosed-short a.s.now a.at (omega arith)); upper_bound = omega arith; }
+    record { value = sym (enclosed-short a.s.now a.at (omega arith)); upper_bound = omega arith }
 
 pub returns-then-s-at-2 : goal.returns-then-s-at-2
-returns-then-s-at-2 c = 
+returns-then-s-at-2 c =
     let a = c.args in
-    record { value = sym (enclosed-cut a.s.now a.at (omega arith) (omega arith)); upper_bound = omega arith; }
+    record { value = sym (enclosed-cut a.s.now a.at (omega arith) (omega arith)); upper_bound = omega arith }
 
 pub returns : goal.returns
-returns c = 
+returns c =
     let a = c.args in
-    record { value = omega (arith, enclosed-whole a.s.now a.at (omega arith)); upper_bound = omega arith; }
+    record { value = omega (arith, enclosed-whole a.s.now a.at (omega arith)); upper_bound = omega arith }

@@ -1,21 +1,19 @@
 -- `judge` meets its contract. The loop's invariant is `Running`: the expression comes to what its bytes from `at` on come to, with operands
 -- that the word stands for. The measure is what is left. Assumes nothing.
-use Prim.Native.Nat.{◌-◌}
 use mathlib.Core.Path.{◌≡◌, refl, sym, ap, ◌∙◌}
 use mathlib.Core.Bool.{true, false}
 use native.Mathlib.Omega.{arith}
-use lib.ListN.{length, drop}
+use lib.ListN.{drop}
 use Rattle.conditions.specs.Condition.{zeros}
 use Rattle.conditions.specs.Condition.{untold, shape_of, shape}
 use Rattle.conditions.proofs.PaddingLaws.{part_rest}
-use Rattle.conditions.proofs.RunLaws.{Holds, Running, unopened, running-start, running-end, running-padded, running-stained}
+use Rattle.conditions.proofs.RunLaws.{Holds, unopened, running-start, running-end, running-padded, running-stained}
 use Rattle.conditions.proofs.RunLaws.{running-broken, running-foreign, running-past, running-on, holds_coded}
-use borrow.Author.Rules.{rules}
 use Rattle.conditions.proofs.condition.judge.Goals as goal
 
 pub returns-then-u32_at-ne2020897377 : goal.returns-then-u32_at-ne2020897377
 unfolding shape
-returns-then-u32_at-ne2020897377 c = 
+returns-then-u32_at-ne2020897377 c =
     let l = c.args.s.now in
     sym (ap shape_of (unopened untold l (λ q. c.if-u32_at-ne2020897377.true (c.u32_at.ensures ∙ q))))
 
@@ -24,7 +22,7 @@ loop-at-init c = running-start untold c.args.s.now (Holds 0) (omega arith) refl
 
 pub returns-then-zeros : goal.returns-then-zeros
 unfolding shape
-returns-then-zeros c = 
+returns-then-zeros c =
     let l = c.args.s.now in
     let z : zeros (drop c.loop-at.at l) ≡ true = ap zeros (sym (part_rest l c.loop-at.at)) ∙ sym c.zeros.ensures
     ∙ c.if-zeros.true in
@@ -34,27 +32,27 @@ returns-then-zeros c =
 
 pub returns-then-s-at-eq0 : goal.returns-then-s-at-eq0
 unfolding shape
-returns-then-s-at-eq0 c = 
+returns-then-s-at-eq0 c =
     let l = c.args.s.now in
     let z : zeros (drop c.loop-at.at l) ≡ false = ap zeros (sym (part_rest l c.loop-at.at)) ∙ sym c.zeros.ensures ∙ c.if-zeros.false in
     sym (ap shape_of (running-stained untold l (Holds c.loop-at.word) c.loop-at.at c.loop-at.invariant (omega arith) (omega arith) z))
 
 pub returns-in-Broken : goal.returns-in-Broken
 unfolding shape
-returns-in-Broken c = 
+returns-in-Broken c =
     let l = c.args.s.now in
     sym (ap shape_of (running-broken untold l (Holds c.loop-at.word) c.loop-at.at c.loop-at.invariant (omega arith) (λ q. omega arith)
     (λ st q. sym c.in-Broken.is ∙ c.token.ensures st q)))
 
 pub returns-in-Foreign : goal.returns-in-Foreign
 unfolding shape
-returns-in-Foreign c = 
+returns-in-Foreign c =
     let l = c.args.s.now in
     sym (ap shape_of (running-foreign untold l (Holds c.loop-at.word) c.loop-at.at c.loop-at.invariant (omega arith) (λ q. omega arith)
     (λ st q. sym c.in-Foreign.is ∙ c.token.ensures st q)))
 
 pub loop-at-smaller : goal.loop-at-smaller
-loop-at-smaller c = 
+loop-at-smaller c =
     let l = c.args.s.now in
     let p = c.in-On.next in
     let m = c.in-On.after in
@@ -63,7 +61,7 @@ loop-at-smaller c =
     omega (arith, b.0)
 
 pub loop-at-preserved : goal.loop-at-preserved
-loop-at-preserved c = 
+loop-at-preserved c =
     let l = c.args.s.now in
     let p = c.in-On.next in
     let m = c.in-On.after in
@@ -72,7 +70,7 @@ loop-at-preserved c =
 
 pub returns : goal.returns
 unfolding shape
-returns c = 
+returns c =
     let l = c.args.s.now in
     c.shape_of-2.ensures
     ∙ ap shape_of (sym (running-end untold l (Holds c.loop-at.word) c.loop-at.at c.loop-at.invariant (omega arith) _ c.ended-2.ensures))

@@ -4,14 +4,13 @@ use native.Mathlib.Omega.{arith}
 use Rattle.conditions.specs.Condition.Item.{sids}
 use Rattle.conditions.specs.Stack.{step_of}
 use Rattle.conditions.proofs.StackLaws.{literal-broken, literal-push}
-use borrow.Author.Rules.{rules}
 use Rattle.conditions.proofs.condition.literal.Goals as goal
 
 pub returns-then-e-eq0 : goal.returns-then-e-eq0
 returns-then-e-eq0 c = λ st q. let a = c.args in sym (ap step_of (literal-broken a.s.now a.at st (omega arith)))
 
 pub returns : goal.returns
-returns c = 
+returns c =
     λ st q.
     let a = c.args in
     let e = c.literal_end-e.ensures.value in

@@ -1,35 +1,32 @@
 -- `literals` meets its contract. The loop's invariant: the composite comes to what its bytes from `at` on come to, in some number of steps
 -- that is enough for them. The measure is what is left. Assumes nothing.
-use Prim.Native.Nat.{◌-◌, ◌≤◌}
 use mathlib.Core.Path.{sym, ◌∙◌}
 use native.Mathlib.Omega.{arith}
-use lib.ListN.{length}
-use Rattle.conditions.proofs.OperandLaws.{Listing, listing_start, listing_end, listing_stray, listing_broken, listing_more}
+use Rattle.conditions.proofs.OperandLaws.{listing_start, listing_end, listing_stray, listing_broken, listing_more}
 use Rattle.conditions.proofs.OperandLaws.{literal-bounds}
-use borrow.Author.Rules.{rules}
 use Rattle.conditions.proofs.condition.literals.Goals as goal
 
 pub loop-at-init : goal.loop-at-init
 loop-at-init c = (omega arith, listing_start c.args.c.now)
 
 pub returns-then-c-at-ne81 : goal.returns-then-c-at-ne81
-returns-then-c-at-ne81 c = 
+returns-then-c-at-ne81 c =
     let l = c.args.c.now in
     c.stray.ensures ∙ sym (listing_stray l c.loop-at.at c.loop-at.invariant.1 (omega arith) c.if-c-at-ne81.true)
 
 pub returns-then-e-eq0 : goal.returns-then-e-eq0
-returns-then-e-eq0 c = 
+returns-then-e-eq0 c =
     let l = c.args.c.now in
     sym (listing_broken l c.loop-at.at c.loop-at.invariant.1 (omega arith) (omega arith) (omega arith))
 
 pub loop-at-smaller : goal.loop-at-smaller
-loop-at-smaller c = 
+loop-at-smaller c =
     let l = c.args.c.now in
     let b = literal-bounds l c.loop-at.at (λ q. c.if-e-eq0.false (c.literal_end-e.ensures.value ∙ q)) in
     omega (arith, b.0, b.1)
 
 pub loop-at-preserved : goal.loop-at-preserved
-loop-at-preserved c = 
+loop-at-preserved c =
     let l = c.args.c.now in
     let e = c.literal_end-e.ensures.value in
     (omega arith, listing_more l c.loop-at.at c.literal_end-e.result c.loop-at.invariant.1 (omega arith) (omega arith) e c.if-e-eq0.false)

@@ -1,12 +1,8 @@
 -- `literals` meets its contract. The loop's invariant: the composite comes to what its bytes from `at` on come to, in some number of steps
 -- that is enough for them. The measure is what is left. Assumes nothing.
 use Prim.Native.Nat.{◌-◌, ◌≤◌}
-use mathlib.Core.Path.{sym, ◌∙◌}
-use native.Mathlib.Omega.{arith}
 use lib.ListN.{length}
-use Rattle.conditions.proofs.OperandLaws.{Listing, listing_start, listing_end, listing_stray, listing_broken, listing_more}
-use Rattle.conditions.proofs.OperandLaws.{literal-bounds}
-use borrow.Author.Rules.{rules}
+use Rattle.conditions.proofs.OperandLaws.{Listing}
 use Rattle.conditions.proofs.condition.literals.Given as goal
 
 abbrev pub invariant-loop-at : goal.invariant-loop-at

@@ -3,7 +3,6 @@ use mathlib.Core.Path.{sym, ap}
 use native.Mathlib.Omega.{arith}
 use Rattle.conditions.specs.Stack.{step_of}
 use Rattle.conditions.proofs.RunLaws.{step_none}
-use borrow.Author.Rules.{rules}
 use Rattle.conditions.proofs.condition.step.Goals as goal
 
 pub returns-then-s-at : goal.returns-then-s-at

@@ -2,7 +2,6 @@
 use mathlib.Core.Path.{sym, ap, ◌∙◌}
 use mathlib.Core.Bool.{Bool, cond}
 use Rattle.conditions.specs.declared.scan.Scan.TheVariants.{Broken, Foreign}
-use borrow.Author.Rules.{rules}
 use Rattle.conditions.proofs.condition.stray.Goals as goal
 
 pub returns-then-in_profile : goal.returns-then-in_profile

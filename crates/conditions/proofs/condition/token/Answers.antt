@@ -2,23 +2,22 @@
 use mathlib.Core.Path.{sym, ap, ◌∙◌}
 use Rattle.conditions.specs.Stack.{step_of}
 use Rattle.conditions.proofs.StepLaws.{step-literal, step-composite, step-asks, step_both, step-either, step-not, step-foreign}
-use borrow.Author.Rules.{rules}
 use Rattle.conditions.proofs.condition.token.Goals as goal
 
 pub returns-then-b-eq81 : goal.returns-then-b-eq81
-returns-then-b-eq81 c = 
+returns-then-b-eq81 c =
     λ st q.
     let a = c.args in
     c.literal.ensures st q ∙ sym (ap step_of (step-literal a.told a.s.now a.at st c.if-b-eq81.true))
 
 pub returns-then-b-eq80 : goal.returns-then-b-eq80
-returns-then-b-eq80 c = 
+returns-then-b-eq80 c =
     λ st q.
     let a = c.args in
     c.composite.ensures st q ∙ sym (ap step_of (step-composite a.told a.s.now a.at st c.if-b-eq80.true))
 
 pub returns-then-asks : goal.returns-then-asks
-returns-then-asks c = 
+returns-then-asks c =
     λ st q.
     let a = c.args in
     let h = sym c.asks.ensures ∙ c.if-asks.true in
@@ -27,7 +26,7 @@ returns-then-asks c =
     c.if-b-eq80.false h))
 
 pub returns-then-b : goal.returns-then-b
-returns-then-b c = 
+returns-then-b c =
     λ st q.
     let a = c.args in
     let m = sym c.asks.ensures ∙ c.if-asks.false in
@@ -36,7 +35,7 @@ returns-then-b c =
     c.if-b-eq80.false m c.if-b.true))
 
 pub returns-then-b-2 : goal.returns-then-b-2
-returns-then-b-2 c = 
+returns-then-b-2 c =
     λ st q.
     let a = c.args in
     let m = sym c.asks.ensures ∙ c.if-asks.false in
@@ -45,7 +44,7 @@ returns-then-b-2 c =
     c.if-b-eq80.false m c.if-b-2.true))
 
 pub returns-then-b-3 : goal.returns-then-b-3
-returns-then-b-3 c = 
+returns-then-b-3 c =
     λ st q.
     let a = c.args in
     let m = sym c.asks.ensures ∙ c.if-asks.false in
@@ -54,7 +53,7 @@ returns-then-b-3 c =
     c.if-b-eq80.false m c.if-b-3.true))
 
 pub returns : goal.returns
-returns c = 
+returns c =
     λ st q.
     let a = c.args in
     let m = sym c.asks.ensures ∙ c.if-asks.false in

@@ -1,11 +1,7 @@
 -- `zeros` meets its contract. The loop's invariant: the bytes are all 0 where those from `i` on are. The measure is what is left.
 -- Assumes nothing.
-use Prim.Native.Nat.{◌-◌, ◌≤◌}
-use mathlib.Core.Path.{◌≡◌, refl, sym, ◌∙◌}
+use mathlib.Core.Path.{refl, sym, ◌∙◌}
 use native.Mathlib.Omega.{arith}
-use lib.ListN.{length, drop}
-use borrow.Author.Rules.{rules}
-use Rattle.conditions.specs.Condition.{zeros}
 use Rattle.conditions.proofs.PaddingLaws.{zeros-hit, zeros-miss, zeros-end}
 use Rattle.conditions.proofs.padding.zeros.Goals as goal
 
@@ -13,16 +9,16 @@ pub loop-i-init : goal.loop-i-init
 loop-i-init c = (omega arith, refl)
 
 pub returns-then-s-i-ne0 : goal.returns-then-s-i-ne0
-returns-then-s-i-ne0 c = 
+returns-then-s-i-ne0 c =
     let l = c.args.s.now in
     sym (c.loop-i.invariant.1 ∙ zeros-miss l c.loop-i.i (omega arith) c.if-s-i-ne0.true)
 
 pub loop-i-preserved : goal.loop-i-preserved
-loop-i-preserved c = 
+loop-i-preserved c =
     let l = c.args.s.now in
     (omega arith, c.loop-i.invariant.1 ∙ zeros-hit l c.loop-i.i (omega arith) (omega arith))
 
 pub returns : goal.returns
-returns c = 
+returns c =
     let l = c.args.s.now in
     sym (c.loop-i.invariant.1 ∙ zeros-end l c.loop-i.i (omega arith))

@@ -1,12 +1,9 @@
 -- `zeros` meets its contract. The loop's invariant: the bytes are all 0 where those from `i` on are. The measure is what is left.
 -- Assumes nothing.
 use Prim.Native.Nat.{◌-◌, ◌≤◌}
-use mathlib.Core.Path.{◌≡◌, refl, sym, ◌∙◌}
-use native.Mathlib.Omega.{arith}
+use mathlib.Core.Path.{◌≡◌}
 use lib.ListN.{length, drop}
-use borrow.Author.Rules.{rules}
 use Rattle.conditions.specs.Condition.{zeros}
-use Rattle.conditions.proofs.PaddingLaws.{zeros-hit, zeros-miss, zeros-end}
 use Rattle.conditions.proofs.padding.zeros.Given as goal
 
 abbrev pub invariant-loop-i : goal.invariant-loop-i

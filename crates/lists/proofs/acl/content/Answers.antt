@@ -4,12 +4,11 @@ use Prim.Native.Nat.{ℕ, ◌+◌, ◌≤◌}
 use mathlib.Core.Bool.{Bool, true}
 use mathlib.Core.Path.{◌≡◌, sym, ap, ◌∙◌}
 use native.Mathlib.Omega.{arith}
-use borrow.Author.Tests.{not-true, not-false}
 use borrow.Author.Rules.{rules}
 use Rattle.base.specs.Bytes.{byte_at, part}
 use Rattle.conditions.specs.Condition.{shape}
 use Rattle.sids.specs.Sid.{sid_end}
-use Rattle.lists.specs.Acl.{callback, named, entry_end, content_of}
+use Rattle.lists.specs.Acl.{entry_end, content_of}
 use Rattle.lists.proofs.TypeLaws.{callback-low, named-low, named-high}
 use Rattle.lists.proofs.EntrySteps.{content-plain, content-foreign, content_shallow, content_condition, entry-end-fits}
 use Rattle.lists.proofs.acl.content.Goals as goal
@@ -29,20 +28,20 @@ inside c =
     omega (arith, f, e, c.sid_end-from.ensures.value)
 
 pub returns-then-kind-lt2 : goal.returns-then-kind-lt2
-returns-then-kind-lt2 c = 
+returns-then-kind-lt2 c =
     let a = c.args in
     let k = byte_at a.l.now a.at in
     sym (content-plain a.deep a.l.now a.at a.e (named-low k c.if-kind-lt2.true) (callback-low k c.if-kind-lt2.true))
 
 pub returns-then-not-is_callback : goal.returns-then-not-is_callback
-returns-then-not-is_callback c = 
+returns-then-not-is_callback c =
     let a = c.args in
     let k = byte_at a.l.now a.at in
     let t = sym c.is_callback.ensures ∙ c.if-not-is_callback.true in
     sym (content-foreign a.deep a.l.now a.at a.e (named-high k c.if-kind-lt2.false ∙ t))
 
 pub returns-then-not-deep : goal.returns-then-not-deep
-returns-then-not-deep c = 
+returns-then-not-deep c =
     let a = c.args in
     let k = byte_at a.l.now a.at in
     let t = sym c.is_callback.ensures ∙ c.if-not-is_callback.false in
@@ -57,7 +56,7 @@ pub slice_bounds-judge-start : goal.slice_bounds-judge-start
 slice_bounds-judge-start c = let i = inside (goal.at.slice_bounds-judge-start c).After-sid_end-from in search rules
 
 pub returns : goal.returns
-returns c = 
+returns c =
     let a = c.args in
     let k = byte_at a.l.now a.at in
     let t = sym c.is_callback.ensures ∙ c.if-not-is_callback.false in

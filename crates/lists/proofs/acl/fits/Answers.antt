@@ -1,7 +1,4 @@
 -- `fits` meets its contract: the test is that of the clause. Assumes nothing.
-use mathlib.Core.Path.{◌∙◌}
-use borrow.Author.Rules.{rules}
-use borrow.Author.Tests.{not-true, not-false}
 use Rattle.lists.proofs.acl.fits.Goals as goal
 
 pub returns-then-not-deep : goal.returns-then-not-deep

@@ -2,7 +2,6 @@
 -- Assumes nothing.
 use mathlib.Core.Path.{sym, ◌∙◌}
 use native.Mathlib.Omega.{arith}
-use borrow.Author.Rules.{rules}
 use Rattle.lists.proofs.TypeLaws.{named-low, named-high}
 use Rattle.lists.proofs.acl.is_named.Goals as goal
 

@@ -1,38 +1,36 @@
 -- `scan_all` meets its contract. The loop's invariant: the list comes to what the entries left come to, something foreign met or not.
 -- The measure is how many entries are left.
 -- Assumes nothing.
-use Prim.Native.Nat.{ℕ, ◌+◌, ◌-◌, ◌≤◌}
+use Prim.Native.Nat.{ℕ, ◌+◌, ◌-◌}
 use mathlib.Core.Bool.{Bool, false, cond, ◌||◌}
-use mathlib.Core.Path.{◌≡◌, sym, ap, ◌∙◌}
+use mathlib.Core.Path.{sym, ap, ◌∙◌}
 use native.Mathlib.Omega.{arith}
-use borrow.Author.Rules.{rules}
 use Rattle.conditions.specs.declared.scan.Scan.TheVariants.{Foreign, Plain}
 use Rattle.conditions.specs.Scanning.{is_broken, is_foreign}
-use Rattle.lists.specs.Acl.{scan_of}
 use Rattle.lists.proofs.EntrySteps.{Left, entry-end-bounds, scan_start, scan-end, scan-broken, scan-spoilt, scan-more}
 use Rattle.lists.proofs.acl.scan_all.Goals as goal
 
 pub loop-k-init : goal.loop-k-init
-loop-k-init c = 
+loop-k-init c =
     let a = c.args in
     let e = c.u16_at-n.ensures.value in
     (omega arith, scan_start a.deep a.l.now ∙ ap (λ (m : ℕ). Left a.deep a.l.now false m 8) (omega (arith, e)))
 
 pub returns-then-e-eq0 : goal.returns-then-e-eq0
-returns-then-e-eq0 c = 
+returns-then-e-eq0 c =
     let a = c.args in
     let n = c.u16_at-n.result in
     sym (c.loop-k.invariant.1 ∙ scan-broken a.deep a.l.now c.loop-k.alien n c.loop-k.k c.loop-k.at (omega arith) (omega arith))
 
 pub content-found-requires : goal.content-found-requires
-content-found-requires c = 
+content-found-requires c =
     let a = c.args in
     let e = c.entry_end-e.ensures.value in
     let b = entry-end-bounds a.deep a.l.now c.loop-k.at (λ q. c.if-e-eq0.false (e ∙ q)) in
-    record { at_lt_e = (omega (arith, b.0, e), omega (arith, b.1, e)); at_value = sym e; }
+    record { at_lt_e = (omega (arith, b.0, e), omega (arith, b.1, e)); at_value = sym e }
 
 pub returns-then-is_broken : goal.returns-then-is_broken
-returns-then-is_broken c = 
+returns-then-is_broken c =
     let a = c.args in
     let n = c.u16_at-n.result in
     let b = sym (ap is_broken c.content-found.ensures) ∙ sym c.is_broken.ensures ∙ c.if-is_broken.true in
@@ -40,7 +38,7 @@ returns-then-is_broken c =
     c.if-e-eq0.false (omega arith) b)
 
 pub loop-k-preserved : goal.loop-k-preserved
-loop-k-preserved c = 
+loop-k-preserved c =
     let a = c.args in
     let n = c.u16_at-n.result in
     let f = c.content-found.ensures in
@@ -53,14 +51,14 @@ loop-k-preserved c =
     )
 
 pub returns-then-alien : goal.returns-then-alien
-returns-then-alien c = 
+returns-then-alien c =
     let a = c.args in
     let n = c.u16_at-n.result in
     let e = scan-end a.deep a.l.now c.loop-k.alien n c.loop-k.k c.loop-k.at (omega arith) in
     sym (c.loop-k.invariant.1 ∙ e ∙ ap (λ (t : Bool). cond t Foreign Plain) c.if-alien.true)
 
 pub returns : goal.returns
-returns c = 
+returns c =
     let a = c.args in
     let n = c.u16_at-n.result in
     let e = scan-end a.deep a.l.now c.loop-k.alien n c.loop-k.k c.loop-k.at (omega arith) in

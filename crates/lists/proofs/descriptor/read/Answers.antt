@@ -4,8 +4,6 @@ use Prim.Native.Nat.{ℕ}
 use mathlib.Core.Path.{sym, ap, ap₂, ◌∙◌}
 use mathlib.Core.Bool.{true, false}
 use lib.ListN.{length}
-use borrow.Author.Tests.{not-true, not-false}
-use borrow.Author.Rules.{rules}
 use Rattle.base.specs.Bits.{has}
 use Rattle.lists.specs.declared.descriptor.Verdict.TheVariants.{Misshapen}
 use Rattle.lists.specs.Descriptor.{sid_piece, acl_piece}
@@ -13,13 +11,13 @@ use Rattle.lists.proofs.DescriptorSteps.{parts_refused, parts_read, refused_insi
 use Rattle.lists.proofs.descriptor.read.Goals as goal
 
 pub returns-then-not-heading : goal.returns-then-not-heading
-returns-then-not-heading c = 
+returns-then-not-heading c =
     let a = c.args in
     let h = sym c.heading.ensures ∙ c.if-not-heading.true in
-    record { value = rw c.refused.ensures (sym (parts_refused a.d.now h)); inside = rw c.refused.ensures (refused_inside (length a.d.now) Misshapen); }
+    record { value = rw c.refused.ensures (sym (parts_refused a.d.now h)); inside = rw c.refused.ensures (refused_inside (length a.d.now) Misshapen) }
 
 pub returns : goal.returns
-returns c = 
+returns c =
     let a = c.args in
     let l = a.d.now in
     let h = sym c.heading.ensures ∙ c.if-not-heading.false in
@@ -28,8 +26,11 @@ returns c =
     let g = c.sid_piece-g.ensures in
     let s = c.acl_piece-s.ensures in
     let k = c.acl_piece-a.ensures in
-    record { value = rw c.judged.ensures (parts_read l _ _ _ _ h
+    record {
+      value = rw c.judged.ensures (parts_read l _ _ _ _ h
           (o.value ∙ ap (sid_piece l) c.u32_at.ensures)
           (g.value ∙ ap (sid_piece l) c.u32_at-2.ensures)
           (s.value ∙ ap₂ (λ (x y : ℕ). acl_piece false l (has x 0x0010) y) m c.u32_at-3.ensures)
-          (k.value ∙ ap₂ (λ (x y : ℕ). acl_piece true l (has x 0x0004) y) m c.u32_at-4.ensures)); inside = rw c.judged.ensures (judged_inside (length l) _ _ _ _ o.result_bound g.result_bound s.result_bound k.result_bound); }
+          (k.value ∙ ap₂ (λ (x y : ℕ). acl_piece true l (has x 0x0004) y) m c.u32_at-4.ensures));
+      inside = rw c.judged.ensures (judged_inside (length l) _ _ _ _ o.result_bound g.result_bound s.result_bound k.result_bound);
+    }

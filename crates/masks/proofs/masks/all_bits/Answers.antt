@@ -3,7 +3,6 @@
 use Prim.Native.Nat.{ℕ}
 use mathlib.Core.List.{[]}
 use mathlib.Core.Path.{ap}
-use borrow.Author.Rules.{rules}
 use lib.ListN.{get_or}
 use Rattle.masks.specs.KindsAndMasks.{table, right}
 use Rattle.masks.proofs.masks.all_bits.Goals as goal

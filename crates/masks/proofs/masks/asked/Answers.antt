@@ -3,14 +3,13 @@
 use Prim.Native.Nat.{ℕ}
 use mathlib.Core.Bool.{cond}
 use mathlib.Core.Path.{ap, ap₂, ◌∙◌}
-use borrow.Author.Rules.{rules}
 use Rattle.base.specs.Bits.{or, has}
 use Rattle.masks.specs.KindsAndMasks.{asked, maximum}
 use Rattle.masks.proofs.masks.asked.Goals as goal
 
 pub returns : goal.returns
 unfolding asked
-returns c = 
+returns c =
     let m = c.args.m.0 in
     ap₂ or c.explicit.ensures
     (c.when-all.ensures ∙ ap (λ (n : ℕ). cond (has m maximum) n 0) c.all_bits.ensures)

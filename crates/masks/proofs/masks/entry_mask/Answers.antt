@@ -1,7 +1,6 @@
 -- `entry_mask` meets its contract: mapped, then cut.
 -- Assumes nothing.
 use mathlib.Core.Path.{ap₂}
-use borrow.Author.Rules.{rules}
 use Rattle.base.specs.Bits.{and}
 use Rattle.masks.specs.KindsAndMasks.{entry_mask}
 use Rattle.masks.proofs.masks.entry_mask.Goals as goal

@@ -2,7 +2,6 @@
 -- Assumes nothing.
 use Prim.Native.Nat.{ℕ}
 use mathlib.Core.Path.{ap}
-use borrow.Author.Rules.{rules}
 use Rattle.base.specs.Bits.{and, flip}
 use Rattle.masks.specs.KindsAndMasks.{explicit, maximum}
 use Rattle.masks.proofs.masks.explicit.Goals as goal

@@ -4,7 +4,6 @@ use Prim.Native.Nat.{ℕ}
 use mathlib.Core.Bool.{cond}
 use mathlib.Core.List.{[]}
 use mathlib.Core.Path.{ap, ap₂, ◌∙◌}
-use borrow.Author.Rules.{rules}
 use lib.ListN.{get_or}
 use Rattle.base.specs.Bits.{and, or, has}
 use Rattle.masks.specs.KindsAndMasks.{table, right, mapped}
@@ -12,7 +11,7 @@ use Rattle.masks.proofs.masks.mapped.Goals as goal
 
 pub returns : goal.returns
 unfolding mapped right
-returns c = 
+returns c =
     let m = c.args.m.0 in
     let r = c.row-i.ensures.0 in
     let read = c.when-read.ensures ∙ ap (λ (n : ℕ). cond (has m 0x80000000) (get_or (get_or table n []) 0 0) 0) r in

@@ -1,24 +1,21 @@
 -- `chain_crowd` meets its contract. The invariant: the seats from here on, chained into the tables as they are, give the whole; the measure
 -- is how many are left. Assumes nothing.
-use Prim.Native.Nat.{ℕ, ◌+◌, ◌-◌, ◌≤◌}
+use Prim.Native.Nat.{ℕ, ◌+◌, ◌-◌}
 use mathlib.Core.List.{List}
 use mathlib.Core.Path.{◌≡◌, refl, sym, ap, ◌∙◌}
 use native.Mathlib.Omega.{arith}
-use borrow.Author.Rules.{rules}
-use lib.ListN.{length, length-set}
-use Rattle.passes.specs.Chains.{Tables, tables, chained, chains_of}
+use lib.ListN.{length-set}
+use Rattle.passes.specs.Chains.{Tables, tables, chained}
 use Rattle.passes.proofs.LinkSteps.{chains_start, chained-none, chained-many, chained-last, chained_more, linked_made}
 use Rattle.passes.proofs.chains.chain_crowd.Goals as goal
 
 -- both tables, from the two together
 both : (t : Tables) (heads seats : List ℕ) → t ≡ tables heads seats → (heads ≡ t.heads) × (seats ≡ t.seats)
-
 both t heads seats e = (sym (ap (λ (u : Tables). u.heads) e), sym (ap (λ (u : Tables). u.seats) e))
 
 pub loop-seat-init : goal.loop-seat-init
-loop-seat-init c = 
-    let a = c.args in
-    (
+loop-seat-init c =
+    let a = c.args in (
       c.first_seat-seat.ensures.seat_lies.0,
       (
         c.first_seat-seat.ensures.seat_lies.1.0,
@@ -30,25 +27,24 @@ loop-seat-init c =
     )
 
 pub returns-then-to-eq0 : goal.returns-then-to-eq0
-returns-then-to-eq0 c = let a = c.args in let whole = both _ _ _ (c.loop-seat.invariant.1.1.1 ∙ chained-none a.attrs a.listing.now _ c.loop-seat.i c.loop-seat.seat c.loop-seat.left c.if-to-eq0.true) in record { heads_after = whole.0; seats_after = whole.1; }
+returns-then-to-eq0 c = let a = c.args in let whole = both _ _ _ (c.loop-seat.invariant.1.1.1 ∙ chained-none a.attrs a.listing.now _ c.loop-seat.i c.loop-seat.seat c.loop-seat.left c.if-to-eq0.true) in record { heads_after = whole.0; seats_after = whole.1 }
 
 pub returns-then-seats-i : goal.returns-then-seats-i
-returns-then-seats-i c = 
+returns-then-seats-i c =
     let a = c.args in let whole = both _ _ _ (c.loop-seat.invariant.1.1.1 ∙ chained-many a.attrs a.listing.now _ c.loop-seat.i c.loop-seat.seat c.loop-seat.left c.if-to-eq0.false
-    c.if-seats-i.true) in record { heads_after = whole.0; seats_after = whole.1; }
+    c.if-seats-i.true) in record { heads_after = whole.0; seats_after = whole.1 }
 
 pub returns-then-left-eq0 : goal.returns-then-left-eq0
-returns-then-left-eq0 c = 
+returns-then-left-eq0 c =
     let a = c.args in let whole = both _ _ _ (c.loop-seat.invariant.1.1.1
     ∙ chained-last a.attrs a.listing.now _ c.loop-seat.i c.loop-seat.seat c.loop-seat.left c.if-to-eq0.false (omega (arith, c.if-seats-i.false)) c.if-left-eq0.true
     ∙ linked_made a.listing.now _ _ c.loop-seat.i c.key-k.result c.last.result
     c.cell.result c.loop-seat.seat c.key-k.ensures.value c.last.ensures
-    c.cell.ensures) in record { heads_after = whole.0; seats_after = whole.1; }
+    c.cell.ensures) in record { heads_after = whole.0; seats_after = whole.1 }
 
 pub loop-seat-preserved : goal.loop-seat-preserved
-loop-seat-preserved c = 
-    let a = c.args in
-    (
+loop-seat-preserved c =
+    let a = c.args in (
       c.seat_at-seat.ensures.seat_lies.0,
       (
         c.seat_at-seat.ensures.seat_lies.1.0,

@@ -1,17 +1,13 @@
 -- `chain_crowd` meets its contract. The invariant: the seats from here on, chained into the tables as they are, give the whole; the measure
 -- is how many are left. Assumes nothing.
-use Prim.Native.Nat.{ℕ, ◌+◌, ◌-◌, ◌≤◌}
-use mathlib.Core.List.{List}
-use mathlib.Core.Path.{◌≡◌, refl, sym, ap, ◌∙◌}
-use native.Mathlib.Omega.{arith}
-use borrow.Author.Rules.{rules}
-use lib.ListN.{length, length-set}
-use Rattle.passes.specs.Chains.{Tables, tables, chained, chains_of}
-use Rattle.passes.proofs.LinkSteps.{chains_start, chained-none, chained-many, chained-last, chained_more, linked_made}
+use Prim.Native.Nat.{◌≤◌}
+use mathlib.Core.Path.{◌≡◌}
+use lib.ListN.{length}
+use Rattle.passes.specs.Chains.{tables, chained, chains_of}
 use Rattle.passes.proofs.chains.chain_crowd.Given as goal
 
 abbrev pub invariant-loop-seat : goal.invariant-loop-seat
-invariant-loop-seat l = 
+invariant-loop-seat l =
     (l.seat.from ≤ l.seat.to)
     × ((l.seat.to ≤ length l.listing)
     × ((length l.seats ≡ length l.initial.seats)

@@ -1,6 +1,5 @@
 -- `listed` meets its contract: the walk's bits where the list is present, else the kind's all bits.
 -- Assumes nothing.
-use borrow.Author.Rules.{rules}
 use Rattle.passes.proofs.evaluation.listed.Goals as goal
 
 pub returns : goal.returns

@@ -1,7 +1,6 @@
 -- `privileges_give` meets its contract: the definition word for word.
 -- Assumes nothing.
 use mathlib.Core.Path.{ap₂}
-use borrow.Author.Rules.{rules}
 use Rattle.base.specs.Bits.{or}
 use Rattle.passes.proofs.evaluation.privileges_give.Goals as goal
 

@@ -1,7 +1,6 @@
 -- `among` meets its contract: those whom the tables show of a SID are its chain.
 -- Assumes nothing.
 use mathlib.Core.Path.{sym, ◌∙◌}
-use borrow.Author.Rules.{rules}
 use Rattle.passes.proofs.ChainsLaws.{among_start}
 use Rattle.passes.proofs.matching.among.Goals as goal
 
@@ -9,7 +8,7 @@ pub search_chain-requires : goal.search_chain-requires
 search_chain-requires c = c.head-n.ensures.upper_bound
 
 pub returns : goal.returns
-returns c = 
+returns c =
     let a = c.args in
     c.search_chain.ensures
     ∙ sym (among_start a.allow a.heads.now a.seats.now a.listing.now a.w.now c.head-n.result c.head-n.ensures.value)

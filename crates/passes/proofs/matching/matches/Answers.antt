@@ -1,20 +1,19 @@
 -- `matches` meets its contract: a virtual identity is answered by the hits, any other by the tables.
 -- Assumes nothing.
 use mathlib.Core.Path.{sym, ◌∙◌}
-use borrow.Author.Rules.{rules}
 use Rattle.passes.specs.Chains.{shown}
 use Rattle.passes.proofs.MatchingLaws.{matches-virtual, matches-among}
 use Rattle.passes.proofs.matching.matches.Goals as goal
 
 pub returns-then-is_virtual : goal.returns-then-is_virtual
-returns-then-is_virtual c = 
+returns-then-is_virtual c =
     let a = c.args in
     c.virtual_matches.ensures
     ∙ sym (matches-virtual a.allow (shown a.heads.now a.seats.now a.listing.now) a.w.now a.hits
     (sym c.is_virtual.ensures ∙ c.if-is_virtual.true))
 
 pub returns : goal.returns
-returns c = 
+returns c =
     let a = c.args in
     c.among.ensures
     ∙ sym (matches-among a.allow (shown a.heads.now a.seats.now a.listing.now) a.w.now a.hits

@@ -1,18 +1,16 @@
 -- `search_chain` meets its contract. The invariant: the chain from this number on, or the row from it down, has the SID where the chain
 -- from the first seat on has it; the measure is the number. Assumes nothing.
-use Prim.Native.Nat.{ℕ, suc, ◌-◌, ◌≤◌}
+use Prim.Native.Nat.{ℕ, suc, ◌-◌}
 use mathlib.Core.Bool.{Bool, true, false, cond, ◌||◌, or-true, or-false}
 use mathlib.Core.List.{List}
-use mathlib.Core.Logic.{⊎_elim}
 use mathlib.Core.Path.{◌≡◌, refl, sym, ap, ◌∙◌}
 use native.Mathlib.Omega.{arith}
-use lib.ListN.{length, get_or}
+use lib.ListN.{get_or}
 use Rattle.base.proofs.BoolLaws.{neither}
 use Rattle.passes.specs.Chains.{next_in, sits_in, near, row, chain}
 use Rattle.passes.specs.Matching.{among}
 use Rattle.passes.proofs.ChainsLaws.{chain-none, chain-hit, chain-near, chain_more, far_below}
 use Rattle.passes.proofs.RowLaws.{row-none, row-hit, row_more}
-use borrow.Author.Rules.{rules}
 use Rattle.passes.proofs.matching.search_chain.Goals as goal
 use Rattle.passes.proofs.matching.search_chain.Goals.{Joined-is_near, then-is_near, else-is_near}
 
@@ -40,8 +38,8 @@ module _ (allow : Bool) (seats s w : List ℕ) (n : ℕ) where
 turned : (c : Joined-is_near) → c.if-is_near.down ≡ (c.loop-n.down || c.is_near.result)
 turned c =
     elim c.if-is_near.branch [
-      then-is_near w ↦ w.down-is ∙ sym (ap (λ (b : Bool). c.loop-n.down || b) w.if-is_near.true ∙ or-true c.loop-n.down)
-    | else-is_near w ↦ w.down-is ∙ sym (ap (λ (b : Bool). c.loop-n.down || b) w.if-is_near.false ∙ or-false c.loop-n.down)
+      | then-is_near w ↦ w.down-is ∙ sym (ap (λ (b : Bool). c.loop-n.down || b) w.if-is_near.true ∙ or-true c.loop-n.down)
+      | else-is_near w ↦ w.down-is ∙ sym (ap (λ (b : Bool). c.loop-n.down || b) w.if-is_near.false ∙ or-false c.loop-n.down)
     ]
 
 -- the seat is not the SID's
@@ -68,18 +66,18 @@ pub loop-n-init : goal.loop-n-init
 loop-n-init c = (c.requires, refl)
 
 pub returns-then-n-eq0 : goal.returns-then-n-eq0
-returns-then-n-eq0 c = 
+returns-then-n-eq0 c =
     let a = c.args in
     sym (c.loop-n.invariant.1 ∙ none a.allow a.seats.now a.listing.now a.w.now c.loop-n.n c.loop-n.down c.if-n-eq0.true)
 
 pub returns-then-sits : goal.returns-then-sits
-returns-then-sits c = 
+returns-then-sits c =
     let a = c.args in
     sym (c.loop-n.invariant.1 ∙ hit a.allow a.seats.now a.listing.now a.w.now c.loop-n.n (c.loop-n.n - 1) _
     (omega (arith, c.if-n-eq0.false)) refl c.loop-n.down (sym c.sits.ensures ∙ c.if-sits.true))
 
 pub loop-n-preserved-then-down : goal.loop-n-preserved-then-down
-loop-n-preserved-then-down c = 
+loop-n-preserved-then-down c =
     let a = c.args in (
       omega (arith, c.loop-n.invariant.0),
       stepped (goal.at.loop-n-preserved-then-down c).Joined-is_near true c.if-down.true
@@ -87,12 +85,12 @@ loop-n-preserved-then-down c =
     )
 
 pub loop-n-smaller : goal.loop-n-smaller
-loop-n-smaller c = 
+loop-n-smaller c =
     far_below c.loop-n.n c.next-after.result c.if-n-eq0.false
     (sym c.is_near.ensures ∙ (neither c.loop-n.down c.is_near.result (sym (turned (goal.at.loop-n-smaller c).Joined-is_near) ∙ c.if-down.false)).1)
 
 pub loop-n-preserved : goal.loop-n-preserved
-loop-n-preserved c = 
+loop-n-preserved c =
     let less = far_below c.loop-n.n c.next-after.result c.if-n-eq0.false
     (sym c.is_near.ensures ∙ (neither c.loop-n.down c.is_near.result (sym (turned (goal.at.loop-n-preserved c).Joined-is_near) ∙ c.if-down.false)).1) in
     let a = c.args in (

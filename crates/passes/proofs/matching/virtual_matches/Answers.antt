@@ -1,7 +1,6 @@
 -- `virtual_matches` meets its contract: the owner's hit for S-1-3-4, else the self identity's.
 -- Assumes nothing.
 use mathlib.Core.Path.{sym, ◌∙◌}
-use borrow.Author.Rules.{rules}
 use Rattle.passes.proofs.matching.virtual_matches.Goals as goal
 
 pub returns-then-is_owner_rights : goal.returns-then-is_owner_rights

@@ -1,7 +1,6 @@
 -- `is_near` meets its contract: the end of a chain is not near; else the numbers decide.
 -- Assumes nothing.
 use mathlib.Core.Path.{refl, sym}
-use borrow.Author.Rules.{rules}
 use Rattle.passes.proofs.ChainsLaws.{near_none, near_by}
 use Rattle.passes.proofs.search.is_near.Goals as goal
 

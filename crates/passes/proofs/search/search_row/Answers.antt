@@ -1,16 +1,14 @@
 -- `search_row` meets its contract. The invariant of both loops: the row from this number down has the SID where the whole row has it; the
 -- measure is the number. Assumes nothing.
-use Prim.Native.Nat.{ℕ, ◌-◌, ◌≤◌}
+use Prim.Native.Nat.{ℕ, ◌-◌}
 use mathlib.Core.Bool.{Bool, ◌||◌}
 use mathlib.Core.List.{List}
-use mathlib.Core.Path.{◌≡◌, refl, sym, ap, ◌∙◌}
+use mathlib.Core.Path.{refl, sym, ap, ◌∙◌}
 use native.Mathlib.Omega.{arith}
 use lib.Dec.{eqb}
-use lib.ListN.{length, get_or}
-use Rattle.passes.specs.Chains.{last_in, row}
-use Rattle.passes.specs.Matching.{among}
+use lib.ListN.{get_or}
+use Rattle.passes.specs.Chains.{last_in}
 use Rattle.passes.proofs.RowLaws.{row-none, row-hit, row_more, row-four}
-use borrow.Author.Rules.{rules}
 use Rattle.passes.proofs.search.search_row.Goals as goal
 
 -- one of the four seats from a number down has the word
@@ -23,9 +21,8 @@ pub fours-init : goal.fours-init
 fours-init c = (c.requires, refl)
 
 pub fours-preserved : goal.fours-preserved
-fours-preserved c = 
-    let a = c.args in
-    (
+fours-preserved c =
+    let a = c.args in (
       omega (arith, c.fours.invariant.0),
       c.fours.invariant.1
           ∙ row-four a.allow a.seats.now a.listing.now a.w.now c.fours.n c.fours-test.true
@@ -40,7 +37,7 @@ pub sits-requires : goal.sits-requires
 sits-requires c = c.last-word.ensures
 
 pub returns-then-sits : goal.returns-then-sits
-returns-then-sits c = 
+returns-then-sits c =
     let a = c.args in
     sym (c.loop-n.invariant.1
     ∙ row-hit a.allow a.seats.now a.listing.now a.w.now c.loop-n.n (c.loop-n.n - 1) _ (omega (
@@ -49,9 +46,8 @@ returns-then-sits c =
     )) refl (sym c.sits.ensures ∙ c.if-sits.true))
 
 pub loop-n-preserved : goal.loop-n-preserved
-loop-n-preserved c = 
-    let a = c.args in
-    (
+loop-n-preserved c =
+    let a = c.args in (
       omega (arith, c.loop-n.invariant.0),
       c.loop-n.invariant.1
           ∙ row_more a.allow a.seats.now a.listing.now a.w.now c.loop-n.n (c.loop-n.n - 1) _ (omega (
@@ -61,6 +57,6 @@ loop-n-preserved c =
     )
 
 pub returns : goal.returns
-returns c = 
+returns c =
     let a = c.args in
     sym (c.loop-n.invariant.1 ∙ row-none a.allow a.seats.now a.listing.now a.w.now c.loop-n.n (omega (arith, c.loop-n-test.false)))

@@ -1,16 +1,10 @@
 -- `search_row` meets its contract. The invariant of both loops: the row from this number down has the SID where the whole row has it; the
 -- measure is the number. Assumes nothing.
-use Prim.Native.Nat.{ℕ, ◌-◌, ◌≤◌}
-use mathlib.Core.Bool.{Bool, ◌||◌}
-use mathlib.Core.List.{List}
-use mathlib.Core.Path.{◌≡◌, refl, sym, ap, ◌∙◌}
-use native.Mathlib.Omega.{arith}
-use lib.Dec.{eqb}
-use lib.ListN.{length, get_or}
-use Rattle.passes.specs.Chains.{last_in, row}
+use Prim.Native.Nat.{◌-◌, ◌≤◌}
+use mathlib.Core.Path.{◌≡◌}
+use lib.ListN.{length}
+use Rattle.passes.specs.Chains.{row}
 use Rattle.passes.specs.Matching.{among}
-use Rattle.passes.proofs.RowLaws.{row-none, row-hit, row_more, row-four}
-use borrow.Author.Rules.{rules}
 use Rattle.passes.proofs.search.search_row.Given as goal
 
 abbrev pub invariant-fours : goal.invariant-fours

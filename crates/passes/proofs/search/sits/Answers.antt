@@ -2,31 +2,29 @@
 -- Assumes nothing.
 use mathlib.Core.Path.{sym, ap, ◌∙◌}
 use native.Mathlib.Omega.{arith}
-use borrow.Author.Tests.{not-true, not-false}
 use lib.Dec.{eqb}
 use Rattle.passes.specs.Chains.{last_in}
 use Rattle.passes.proofs.SitsLaws.{sits-other, sits-out, sits-idle, sits-same}
-use borrow.Author.Rules.{rules}
 use Rattle.passes.proofs.search.sits.Goals as goal
 
 pub returns-then-not-ends : goal.returns-then-not-ends
-returns-then-not-ends c = 
+returns-then-not-ends c =
     let a = c.args in
     sym (sits-other a.allow a.listing.now a.x a.w.now
     (ap (eqb (last_in a.x)) (sym c.requires) ∙ sym c.ends.ensures ∙ c.if-not-ends.true))
 
 pub returns-then-listing-to : goal.returns-then-listing-to
-returns-then-listing-to c = 
+returns-then-listing-to c =
     let a = c.args in
     sym (sits-out a.allow a.listing.now a.x a.w.now c.if-listing-to.true)
 
 pub returns-then-not-ready : goal.returns-then-not-ready
-returns-then-not-ready c = 
+returns-then-not-ready c =
     let a = c.args in
     sym (sits-idle a.allow a.listing.now a.x a.w.now (sym c.ready.ensures ∙ c.if-not-ready.true))
 
 pub returns : goal.returns
-returns c = 
+returns c =
     let a = c.args in
     c.same.ensures
     ∙ sits-same a.allow a.listing.now a.x a.w.now

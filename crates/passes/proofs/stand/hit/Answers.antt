@@ -3,7 +3,6 @@
 -- Assumes nothing.
 use mathlib.Core.Bool.{Bool, true, false}
 use mathlib.Core.Path.{◌≡◌, refl, sym, ap₂, ◌∙◌}
-use borrow.Author.Rules.{rules}
 use borrow.Author.Tests.{eq-eqb, ne_eqb}
 use Rattle.passes.specs.Chains.{chain, shown}
 use Rattle.passes.specs.Matching.{among, stands, hit_by}
@@ -16,13 +15,13 @@ returns-then-w-eq0 c = c.nobody.ensures ∙ rw (eq-eqb _ _ c.if-w-eq0.true) refl
 
 pub returns-then-is_virtual : goal.returns-then-is_virtual
 unfolding stands
-returns-then-is_virtual c = 
+returns-then-is_virtual c =
     c.nobody-then-is_virtual.ensures
     ∙ rw (ne_eqb _ _ c.if-w-eq0.false, sym c.is_virtual.ensures ∙ c.if-is_virtual.true) refl
 
 pub returns-then-n-eq0 : goal.returns-then-n-eq0
 unfolding stands
-returns-then-n-eq0 c = 
+returns-then-n-eq0 c =
     let a = c.args in
     let none : (allow : Bool) → among allow (shown a.heads.now a.seats.now a.listing.now) a.w.now ≡ false =
     λ allow.
@@ -40,7 +39,7 @@ returns-then-n-eq0 c =
 
 pub returns : goal.returns
 unfolding stands
-returns c = 
+returns c =
     let a = c.args in
     let found : (allow : Bool) → among allow (shown a.heads.now a.seats.now a.listing.now) a.w.now
     ≡ among allow (chain a.seats.now a.listing.now c.head-n.result c.head-n.result) a.w.now =

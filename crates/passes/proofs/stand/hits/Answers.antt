@@ -1,7 +1,6 @@
 -- `hits` meets its contract: the owner and the self identity.
 -- Assumes nothing.
 use mathlib.Core.Path.{ap₂}
-use borrow.Author.Rules.{rules}
 use Rattle.passes.specs.Matching.{hits_of, hits_by}
 use Rattle.passes.proofs.stand.hits.Goals as goal
 

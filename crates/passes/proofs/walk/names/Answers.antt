@@ -1,6 +1,5 @@
 -- `names` meets its contract: named before, or now.
 -- Assumes nothing.
-use borrow.Author.Rules.{rules}
 use Rattle.passes.proofs.walk.names.Goals as goal
 
 pub returns : goal.returns

@@ -4,7 +4,6 @@
 use Prim.Native.Nat.{ℕ, ◌+◌, ◌-◌, ◌<◌, ◌≤◌}
 use mathlib.Core.Bool.{Bool, false, ◌&&◌, ◌||◌}
 use mathlib.Core.List.{List, []}
-use mathlib.Core.Logic.{⊎_elim}
 use mathlib.Core.Path.{◌≡◌, refl, sym, ap, ◌∙◌}
 use native.Mathlib.Omega.{arith}
 use borrow.Author.Rules.{rules}
@@ -20,7 +19,7 @@ use Rattle.lists.specs.declared.acl.Ace.{Ace}
 use Rattle.records.specs.Crowd.{Member}
 use Rattle.masks.specs.TheTally.{idle}
 use Rattle.masks.specs.declared.tally.Tally.{Tally}
-use Rattle.passes.specs.Chains.{near, chain, shown}
+use Rattle.passes.specs.Chains.{near, shown}
 use Rattle.passes.specs.Matching.{among}
 use Rattle.passes.specs.NormalEvaluation.{counts}
 use Rattle.passes.specs.OnePass.{allows, member, taken}
@@ -36,10 +35,10 @@ use Rattle.passes.proofs.walk.pass.Goals.{Else-is_near, Else-is_virtual, Else-pl
 
 -- what was known earlier, as a place of its own
 abbrev up-1 : Else-is_virtual → Else-place-eq0
-up-1 c = record { before = c.before.before.before.before.before.before; type_inv = record { seats = c.shared_slice_known-3-1.given; listing = c.shared_slice_known-2-1.given; list = c.shared_slice_known-1.given; } }
+up-1 c = record { before = c.before.before.before.before.before.before; type_inv = record { seats = c.shared_slice_known-3-1.given; listing = c.shared_slice_known-2-1.given; list = c.shared_slice_known-1.given } }
 
 abbrev up-2 : Joined-n-eq0 → Else-place-eq0
-up-2 c = record { before = c.before.before.before.before.before.before.before.before.before.before.before.before.before.before.before.before.before.before; type_inv = record { seats = c.shared_slice_known-3-1.given; listing = c.shared_slice_known-2-1.given; list = c.shared_slice_known-1.given; } }
+up-2 c = record { before = c.before.before.before.before.before.before.before.before.before.before.before.before.before.before.before.before.before.before; type_inv = record { seats = c.shared_slice_known-3-1.given; listing = c.shared_slice_known-2-1.given; list = c.shared_slice_known-1.given } }
 
 -- ---- what is known where an entry stands
 abbrev Standing : Type 0
@@ -95,8 +94,7 @@ on : (p : Standing) (t : Tally) (named : Bool) →
     named ≡ (named_of p || (counts (entry_of_lem p) && same (who_of p) owner_rights)) →
     t ≡ taken (kind_of p) (crowd_of_lem p) (hits_of_lem p) (tally_of p) (entry_of_lem p) → Next p t named
 on p t named e f =
-    let more = p.entries-test.true in
-    (
+    let more = p.entries-test.true in (
       omega (arith, more),
       p.entries.invariant.1
           ∙ walk-on (list_of p) (count_of p - turn_of p) (count_of p - (turn_of p + 1)) p.entries.place (ace_of p)
@@ -124,23 +122,23 @@ found c =
     let a = c.args in
     let allow = allows (entry_of_lem (up-2 c)) in
     elim c.if-n-eq0.branch [
-      then-n-eq0 w ↦
-        w.hit-is ∙ sym (c.search.invariant.1 ∙ chain-none allow a.seats.now a.listing.now (who_of (up-2 c)) c.search.n w.if-n-eq0.true)
-    | else-n-eq0+then-sits w ↦
-        w.hit-is
-        ∙ sym (c.search.invariant.1
-        ∙ chain-hit allow a.seats.now a.listing.now (who_of (up-2 c)) c.search.n (c.search.n - 1) _ (omega (arith, w.if-n-eq0.false)) refl
-        (sym w.sits.ensures ∙ w.if-sits.true))
-    | else-n-eq0+else-sits+then-is_near w ↦
-        w.hit-is ∙ w.search_row-hit.ensures
-        ∙ sym (c.search.invariant.1
-        ∙ chain-near allow a.seats.now a.listing.now (who_of (up-2 c)) c.search.n (c.search.n - 1) _ (omega (arith, w.if-n-eq0.false)) refl
-        (sym w.sits.ensures ∙ w.if-sits.false)
-        (ap (near c.search.n) (sym w.next-after.ensures.0) ∙ sym w.is_near.ensures ∙ w.if-is_near.true))
+      | then-n-eq0 w ↦
+          w.hit-is ∙ sym (c.search.invariant.1 ∙ chain-none allow a.seats.now a.listing.now (who_of (up-2 c)) c.search.n w.if-n-eq0.true)
+      | else-n-eq0+then-sits w ↦
+          w.hit-is
+          ∙ sym (c.search.invariant.1
+          ∙ chain-hit allow a.seats.now a.listing.now (who_of (up-2 c)) c.search.n (c.search.n - 1) _ (omega (arith, w.if-n-eq0.false)) refl
+          (sym w.sits.ensures ∙ w.if-sits.true))
+      | else-n-eq0+else-sits+then-is_near w ↦
+          w.hit-is ∙ w.search_row-hit.ensures
+          ∙ sym (c.search.invariant.1
+          ∙ chain-near allow a.seats.now a.listing.now (who_of (up-2 c)) c.search.n (c.search.n - 1) _ (omega (arith, w.if-n-eq0.false)) refl
+          (sym w.sits.ensures ∙ w.if-sits.false)
+          (ap (near c.search.n) (sym w.next-after.ensures.0) ∙ sym w.is_near.ensures ∙ w.if-is_near.true))
     ]
 
 pub entries-init : goal.entries-init
-entries-init c = 
+entries-init c =
     let a = c.args in (
       omega arith,
       walk_start a.kind (shown a.heads.now a.seats.now a.listing.now) a.hits a.list.now
@@ -149,13 +147,13 @@ entries-init c =
     )
 
 pub entries-preserved-then-not-counts : goal.entries-preserved-then-not-counts
-entries-preserved-then-not-counts c = 
+entries-preserved-then-not-counts c =
     let skip = not-false (has (ace_of (goal.at.entries-preserved-then-not-counts c).Else-place-eq0).flags 0x08) (sym c.counts.ensures ∙ c.if-not-counts.true) in
     on (goal.at.entries-preserved-then-not-counts c).Else-place-eq0 (tally_of (goal.at.entries-preserved-then-not-counts c).Else-place-eq0) (named_of (goal.at.entries-preserved-then-not-counts c).Else-place-eq0) (names-skipped (named_of (goal.at.entries-preserved-then-not-counts c).Else-place-eq0) (entry_of_lem (goal.at.entries-preserved-then-not-counts c).Else-place-eq0) skip)
     (sym (taken_skipped (kind_of (goal.at.entries-preserved-then-not-counts c).Else-place-eq0) (crowd_of_lem (goal.at.entries-preserved-then-not-counts c).Else-place-eq0) (hits_of_lem (goal.at.entries-preserved-then-not-counts c).Else-place-eq0) (tally_of (goal.at.entries-preserved-then-not-counts c).Else-place-eq0) (entry_of_lem (goal.at.entries-preserved-then-not-counts c).Else-place-eq0) skip))
 
 pub entries-preserved-then-is_virtual : goal.entries-preserved-then-is_virtual
-entries-preserved-then-is_virtual c = 
+entries-preserved-then-is_virtual c =
     let counted = not-true (has (ace_of (goal.at.entries-preserved-then-is_virtual c).Else-place-eq0).flags 0x08) (sym c.counts.ensures ∙ c.if-not-counts.false) in
     let mine = matches-virtual (allows (entry_of_lem (goal.at.entries-preserved-then-is_virtual c).Else-place-eq0)) (crowd_of_lem (goal.at.entries-preserved-then-is_virtual c).Else-place-eq0) (who_of (goal.at.entries-preserved-then-is_virtual c).Else-place-eq0) (hits_of_lem (goal.at.entries-preserved-then-is_virtual c).Else-place-eq0)
     (sym c.is_virtual.ensures ∙ c.if-is_virtual.true) in
@@ -166,13 +164,13 @@ entries-preserved-then-is_virtual c =
     (c.speaks-spoken.ensures ∙ ap (λ (t : Bool). t && admitted_of (goal.at.entries-preserved-then-is_virtual c).Else-place-eq0) (c.virtual_matches-hit.ensures ∙ sym mine)))
 
 pub entries-preserved-then-t-all : goal.entries-preserved-then-t-all
-entries-preserved-then-t-all c = 
+entries-preserved-then-t-all c =
     on (goal.at.entries-preserved-then-t-all c).Else-place-eq0 (tally_of (goal.at.entries-preserved-then-t-all c).Else-place-eq0) (named_of (goal.at.entries-preserved-then-t-all c).Else-place-eq0) (names-other (named_of (goal.at.entries-preserved-then-t-all c).Else-place-eq0) (entry_of_lem (goal.at.entries-preserved-then-t-all c).Else-place-eq0) (other_in (goal.at.entries-preserved-then-t-all c).Else-is_virtual))
     (sym (taken_full (kind_of (goal.at.entries-preserved-then-t-all c).Else-place-eq0) (crowd_of_lem (goal.at.entries-preserved-then-t-all c).Else-place-eq0) (hits_of_lem (goal.at.entries-preserved-then-t-all c).Else-place-eq0) (tally_of (goal.at.entries-preserved-then-t-all c).Else-place-eq0) (entry_of_lem (goal.at.entries-preserved-then-t-all c).Else-place-eq0)
     (c.if-t-all.true ∙ c.all_bits-all.ensures)))
 
 pub entries-preserved-then-first-eq0 : goal.entries-preserved-then-first-eq0
-entries-preserved-then-first-eq0 c = 
+entries-preserved-then-first-eq0 c =
     let a = c.args in
     let allow = allows (entry_of_lem (goal.at.entries-preserved-then-first-eq0 c).Else-place-eq0) in
     let other = other_in (goal.at.entries-preserved-then-first-eq0 c).Else-is_virtual in
@@ -183,22 +181,21 @@ entries-preserved-then-first-eq0 c =
     (matches-among allow (crowd_of_lem (goal.at.entries-preserved-then-first-eq0 c).Else-place-eq0) (who_of (goal.at.entries-preserved-then-first-eq0 c).Else-place-eq0) (hits_of_lem (goal.at.entries-preserved-then-first-eq0 c).Else-place-eq0) other ∙ none)))
 
 pub entries-preserved-then-idle : goal.entries-preserved-then-idle
-entries-preserved-then-idle c = 
+entries-preserved-then-idle c =
     on (goal.at.entries-preserved-then-idle c).Else-place-eq0 (tally_of (goal.at.entries-preserved-then-idle c).Else-place-eq0) (named_of (goal.at.entries-preserved-then-idle c).Else-place-eq0) (names-other (named_of (goal.at.entries-preserved-then-idle c).Else-place-eq0) (entry_of_lem (goal.at.entries-preserved-then-idle c).Else-place-eq0) (other_in
     (goal.at.entries-preserved-then-idle c).Else-is_virtual))
     (sym (taken_idle (kind_of (goal.at.entries-preserved-then-idle c).Else-place-eq0) (crowd_of_lem (goal.at.entries-preserved-then-idle c).Else-place-eq0) (hits_of_lem (goal.at.entries-preserved-then-idle c).Else-place-eq0) (tally_of (goal.at.entries-preserved-then-idle c).Else-place-eq0) (entry_of_lem (goal.at.entries-preserved-then-idle c).Else-place-eq0)
     (ap (λ (n : ℕ). idle (tally_of (goal.at.entries-preserved-then-idle c).Else-place-eq0) (ace_of (goal.at.entries-preserved-then-idle c).Else-place-eq0).flags n) (sym c.entry_mask-mask-in-entries.ensures) ∙ (sym c.idle.ensures ∙ c.if-idle.true))))
 
 pub search-init : goal.search-init
-search-init c = 
-    let a = c.args in
-    (
+search-init c =
+    let a = c.args in (
       c.head-first.ensures.upper_bound,
       among_start (allows (entry_of_lem (goal.at.search-init c).Else-place-eq0)) a.heads.now a.seats.now a.listing.now (who_of (goal.at.search-init c).Else-place-eq0) c.head-first.result c.head-first.ensures.value,
     )
 
 pub offset_bounds-seats-n : goal.offset_bounds-seats-n
-offset_bounds-seats-n c = 
+offset_bounds-seats-n c =
     let within : c.search.n < length c.args.seats.now = omega (arith, c.search.invariant.0, c.if-n-eq0.false) in
     search rules
 
@@ -212,7 +209,7 @@ pub search-smaller : goal.search-smaller
 search-smaller c = below (goal.at.search-smaller c).Else-is_near
 
 pub search-preserved : goal.search-preserved
-search-preserved c = 
+search-preserved c =
     let a = c.args in
     let less = below (goal.at.search-preserved c).Else-is_near in (
       omega (arith, less, c.search.invariant.0),
@@ -226,7 +223,7 @@ pub entries-smaller : goal.entries-smaller
 entries-smaller c = omega (arith, c.entries-test.true)
 
 pub entries-preserved : goal.entries-preserved
-entries-preserved c = 
+entries-preserved c =
     let other = other_in (goal.at.entries-preserved c).Else-is_virtual in
     let counted = not-true (has (ace_of (goal.at.entries-preserved c).Else-place-eq0).flags 0x08) (sym c.counts.ensures ∙ c.if-not-counts.false) in
     let mine = matches-among (allows (entry_of_lem (goal.at.entries-preserved c).Else-place-eq0)) (crowd_of_lem (goal.at.entries-preserved c).Else-place-eq0) (who_of (goal.at.entries-preserved c).Else-place-eq0) (hits_of_lem (goal.at.entries-preserved c).Else-place-eq0) other in
@@ -236,15 +233,15 @@ entries-preserved c =
     (c.speaks-spoken-in-entries.ensures ∙ ap (λ (t : Bool). t && admitted_of (goal.at.entries-preserved c).Else-place-eq0) (found (goal.at.entries-preserved c).Joined-n-eq0 ∙ sym mine)))
 
 pub returns : goal.returns
-returns c = 
+returns c =
     let a = c.args in
     let n = c.u16_at-entries.result in
     let over : entries_by_length_at a.list.now (n - c.entries.k) c.entries.place ≡ [] =
     elim c.entries-test.branch [
-      else-entries-test w ↦ entries_end a.list.now (n - c.entries.k) c.entries.place (omega (arith, w.entries-test.false))
-    | then-entries-test+then-place-eq0 w ↦
-        entries-bad a.list.now (n - c.entries.k) (n - (c.entries.k + 1)) c.entries.place w.ace_by_length-e.result w.ace_by_length-e.ensures.value
-        (omega (arith, w.entries-test.true)) w.if-place-eq0.true
+      | else-entries-test w ↦ entries_end a.list.now (n - c.entries.k) c.entries.place (omega (arith, w.entries-test.false))
+      | then-entries-test+then-place-eq0 w ↦
+          entries-bad a.list.now (n - c.entries.k) (n - (c.entries.k + 1)) c.entries.place w.ace_by_length-e.result w.ace_by_length-e.ensures.value
+          (omega (arith, w.entries-test.true)) w.if-place-eq0.true
     ] in
     sym (c.entries.invariant.1
     ∙ walk_end a.kind (shown a.heads.now a.seats.now a.listing.now) a.hits c.entries.t c.entries.named _ over)

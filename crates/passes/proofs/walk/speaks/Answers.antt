@@ -4,8 +4,6 @@ use mathlib.Core.List.{List, []}
 use mathlib.Core.Bool.{Bool, true, false, cond, ◌&&◌}
 use mathlib.Core.Path.{◌≡◌, sym, ◌∙◌}
 use Prim.Native.Nat.{ℕ}
-use borrow.Author.Rules.{rules}
-use borrow.Author.Tests.{not-true, not-false}
 use Rattle.conditions.specs.Membership.{admits}
 use Rattle.conditions.proofs.MembershipLaws.{admits-none}
 use Rattle.lists.specs.Acl.{callback}
@@ -25,13 +23,13 @@ pub returns-then-not-hit : goal.returns-then-not-hit
 returns-then-not-hit c = sym (missed c.args.hit _ (c.if-not-hit.true))
 
 pub returns-then-not-is_callback : goal.returns-then-not-is_callback
-returns-then-not-is_callback c = 
+returns-then-not-is_callback c =
     let a = c.args in
     sym (plain _ _ a.hit (callback a.kind) (c.if-not-hit.false)
     (sym c.is_callback.ensures ∙ c.if-not-is_callback.true))
 
 pub returns : goal.returns
-returns c = 
+returns c =
     let a = c.args in
     c.admits.ensures
     ∙ sym (conditional _ _ a.hit (callback a.kind) (c.if-not-hit.false)

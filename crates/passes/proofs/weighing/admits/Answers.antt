@@ -1,7 +1,6 @@
 -- `admits` meets its contract: no bytes, or what they come to.
 -- Assumes nothing.
 use mathlib.Core.Path.{ap, ◌∙◌}
-use borrow.Author.Rules.{rules}
 use borrow.Author.Tests.{eq-eqb, ne_eqb}
 use Rattle.conditions.specs.Membership.{says, admits}
 use Rattle.passes.proofs.weighing.admits.Goals as goal

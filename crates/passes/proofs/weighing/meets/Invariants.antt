@@ -1,14 +1,9 @@
 -- `meets` meets its contract. The loop's invariant is `Meeting`: the list is met as its literals from `at` on are. The measure is what is
 -- left. Assumes nothing.
 use Prim.Native.Nat.{◌-◌}
-use mathlib.Core.Path.{sym, ap, ◌∙◌}
-use mathlib.Core.Bool.{true, not}
-use native.Mathlib.Omega.{arith}
+use mathlib.Core.Bool.{true}
 use lib.ListN.{length}
-use borrow.Author.Tests.{not-true, not-false}
-use Rattle.conditions.proofs.OperandLaws.{literal-bounds}
-use Rattle.conditions.proofs.MembershipLaws.{Meeting, meeting-start, meeting-stop, meeting-end, meeting-decided, meeting-more}
-use borrow.Author.Rules.{rules}
+use Rattle.conditions.proofs.MembershipLaws.{Meeting}
 use Rattle.passes.specs.Chains.{shown}
 use Rattle.passes.specs.Matching.{matches}
 use Rattle.passes.proofs.weighing.meets.Given as goal

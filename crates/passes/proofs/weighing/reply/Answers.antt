@@ -4,31 +4,30 @@ use mathlib.Core.Path.{sym, ap, ◌∙◌}
 use mathlib.Core.Bool.{true, not}
 use Rattle.conditions.specs.Membership.{sids_of}
 use Rattle.conditions.proofs.MembershipLaws.{reply-all, reply-any, reply-not-all, reply-not-any}
-use borrow.Author.Rules.{rules}
 use Rattle.passes.specs.Chains.{shown}
 use Rattle.passes.specs.Matching.{matches}
 use Rattle.passes.proofs.weighing.reply.Goals as goal
 
 pub returns-then-b-eq137 : goal.returns-then-b-eq137
-returns-then-b-eq137 c = 
+returns-then-b-eq137 c =
     let a = c.args in
     let f = matches true (shown a.heads.now a.seats.now a.listing.now) a.hits in
     c.meets.ensures ∙ sym (reply-all f a.b (sids_of a.c.now) c.if-b-eq137.true)
 
 pub returns-then-b-eq139 : goal.returns-then-b-eq139
-returns-then-b-eq139 c = 
+returns-then-b-eq139 c =
     let a = c.args in
     let f = matches true (shown a.heads.now a.seats.now a.listing.now) a.hits in
     c.meets-then-b-eq139.ensures ∙ sym (reply-any f a.b (sids_of a.c.now) c.if-b-eq139.true)
 
 pub returns-then-b-eq144 : goal.returns-then-b-eq144
-returns-then-b-eq144 c = 
+returns-then-b-eq144 c =
     let a = c.args in
     let f = matches true (shown a.heads.now a.seats.now a.listing.now) a.hits in
     ap not c.meets-then-b-eq144.ensures ∙ sym (reply-not-all f a.b (sids_of a.c.now) c.if-b-eq144.true)
 
 pub returns : goal.returns
-returns c = 
+returns c =
     let a = c.args in
     let f = matches true (shown a.heads.now a.seats.now a.listing.now) a.hits in
     ap not c.meets-2.ensures ∙ sym (reply-not-any f a.b (sids_of a.c.now)

@@ -3,20 +3,19 @@
 use mathlib.Core.Path.{sym, ◌∙◌}
 use mathlib.Core.Bool.{true}
 use Rattle.conditions.proofs.MembershipLaws.{told-other, told-list}
-use borrow.Author.Rules.{rules}
 use Rattle.passes.specs.Chains.{shown}
 use Rattle.passes.specs.Matching.{matches}
 use Rattle.passes.proofs.weighing.told.Goals as goal
 
 pub returns-then-m-ne3 : goal.returns-then-m-ne3
-returns-then-m-ne3 c = 
+returns-then-m-ne3 c =
     λ st q.
     let a = c.args in
     let f = matches true (shown a.heads.now a.seats.now a.listing.now) a.hits in
     sym (told-other f a.s.now a.b a.m c.if-m-ne3.true st q)
 
 pub returns : goal.returns
-returns c = 
+returns c =
     λ st q.
     let a = c.args in
     let f = matches true (shown a.heads.now a.seats.now a.listing.now) a.hits in

@@ -1,29 +1,27 @@
 -- `weigh` meets its contract. The loop's invariant is `Running`: the expression comes to what its bytes from `at` on come to, with operands
 -- that the stack stands for; the latest operand's place lies inside. The measure is what is left. Assumes nothing.
-use Prim.Native.Nat.{◌-◌, ◌≤◌}
 use mathlib.Core.Path.{◌≡◌, refl, sym, ap, ◌∙◌}
 use mathlib.Core.Bool.{Bool, true, false}
 use native.Mathlib.Omega.{arith}
-use lib.ListN.{length, drop}
+use lib.ListN.{drop}
 use Rattle.conditions.specs.Condition.{zeros, step_at}
 use Rattle.conditions.specs.Stack.{step_of}
 use Rattle.conditions.specs.Membership.{told_of}
 use Rattle.conditions.proofs.PaddingLaws.{part_rest}
-use Rattle.conditions.proofs.RunLaws.{Coded, Running, unopened, running-start, running-end, running-padded, running-stained}
+use Rattle.conditions.proofs.RunLaws.{Coded, unopened, running-start, running-end, running-padded, running-stained}
 use Rattle.conditions.proofs.RunLaws.{running-broken, running-foreign, running-past, running-on, holds_coded}
-use borrow.Author.Rules.{rules}
 use Rattle.passes.specs.Chains.{shown}
 use Rattle.passes.specs.Matching.{matches}
 use Rattle.passes.proofs.weighing.weigh.Goals as goal
 
 pub returns-then-u32_at-ne2020897377 : goal.returns-then-u32_at-ne2020897377
-returns-then-u32_at-ne2020897377 c = 
+returns-then-u32_at-ne2020897377 c =
     let a = c.args in
     let f = matches true (shown a.heads.now a.seats.now a.listing.now) a.hits in
     sym (unopened (told_of f a.s.now) a.s.now (λ q. c.if-u32_at-ne2020897377.true (c.u32_at.ensures ∙ q)))
 
 pub loop-at-init : goal.loop-at-init
-loop-at-init c = 
+loop-at-init c =
     let a = c.args in
     let f = matches true (shown a.heads.now a.seats.now a.listing.now) a.hits in
     let l = a.s.now in (
@@ -32,7 +30,7 @@ loop-at-init c =
     )
 
 pub returns-then-zeros : goal.returns-then-zeros
-returns-then-zeros c = 
+returns-then-zeros c =
     let a = c.args in
     let f = matches true (shown a.heads.now a.seats.now a.listing.now) a.hits in
     let l = a.s.now in
@@ -43,7 +41,7 @@ returns-then-zeros c =
     (λ st q. c.ended.ensures st (holds_coded c.loop-at.m st q)))
 
 pub returns-then-s-at-eq0 : goal.returns-then-s-at-eq0
-returns-then-s-at-eq0 c = 
+returns-then-s-at-eq0 c =
     let a = c.args in
     let f = matches true (shown a.heads.now a.seats.now a.listing.now) a.hits in
     let l = a.s.now in
@@ -52,7 +50,7 @@ returns-then-s-at-eq0 c =
     sym (running-stained tell l (Coded c.loop-at.m) c.loop-at.at c.loop-at.invariant.0 (omega arith) (omega arith) z)
 
 pub returns-in-Broken : goal.returns-in-Broken
-returns-in-Broken c = 
+returns-in-Broken c =
     let a = c.args in
     let f = matches true (shown a.heads.now a.seats.now a.listing.now) a.hits in
     let l = a.s.now in
@@ -62,7 +60,7 @@ returns-in-Broken c =
     ∙ ap (λ (t : Bool). step_of (step_at t l c.loop-at.at st)) (c.told-t.ensures st q)))
 
 pub returns-in-Foreign : goal.returns-in-Foreign
-returns-in-Foreign c = 
+returns-in-Foreign c =
     let a = c.args in
     let f = matches true (shown a.heads.now a.seats.now a.listing.now) a.hits in
     let l = a.s.now in
@@ -72,7 +70,7 @@ returns-in-Foreign c =
     ∙ ap (λ (t : Bool). step_of (step_at t l c.loop-at.at st)) (c.told-t.ensures st q)))
 
 pub loop-at-smaller : goal.loop-at-smaller
-loop-at-smaller c = 
+loop-at-smaller c =
     let a = c.args in
     let f = matches true (shown a.heads.now a.seats.now a.listing.now) a.hits in
     let l = a.s.now in
@@ -85,7 +83,7 @@ loop-at-smaller c =
     omega (arith, b.0)
 
 pub loop-at-preserved : goal.loop-at-preserved
-loop-at-preserved c = 
+loop-at-preserved c =
     let a = c.args in
     let f = matches true (shown a.heads.now a.seats.now a.listing.now) a.hits in
     let l = a.s.now in
@@ -101,7 +99,7 @@ loop-at-preserved c =
     )
 
 pub returns : goal.returns
-returns c = 
+returns c =
     let a = c.args in
     let f = matches true (shown a.heads.now a.seats.now a.listing.now) a.hits in
     let l = a.s.now in

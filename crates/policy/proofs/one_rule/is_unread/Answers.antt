@@ -1,12 +1,11 @@
 -- `policy::one_rule::is_unread` meets its contract: each test in its order. Assumes nothing.
-use borrow.Author.Rules.{rules}
 use Rattle.policy.proofs.one_rule.is_unread.Goals as goal
 
 pub returns-then-is_foreign : goal.returns-then-is_foreign
 returns-then-is_foreign c = rw (← c.is_foreign.ensures, c.if-is_foreign.true)
 
 pub returns-then-is_foreign-2 : goal.returns-then-is_foreign-2
-returns-then-is_foreign-2 c = 
+returns-then-is_foreign-2 c =
     rw (
       ← c.is_foreign.ensures,
       c.if-is_foreign.false,
@@ -15,7 +14,7 @@ returns-then-is_foreign-2 c =
     )
 
 pub returns : goal.returns
-returns c = 
+returns c =
     rw (
       ← c.is_foreign.ensures,
       c.if-is_foreign.false,

@@ -3,7 +3,6 @@
 -- what each test of a section says
 use mathlib.Core.Path.{◌≡◌}
 use mathlib.Core.Bool.{Bool, true, false}
-use borrow.Author.Rules.{rules}
 use Rattle.conditions.specs.Scanning.{is_broken}
 use Rattle.policy.proofs.OneRuleSteps.{applies_in, list_in, maybe_in, told, rule-none, rule-applies, rule-dacl}
 use Rattle.policy.proofs.OneRuleSteps.{rule-sacl, rule-staged, rule-last, rule_found}
@@ -12,7 +11,7 @@ use Rattle.policy.proofs.one_rule.rule_of.Goals.{After-is_broken, After-is_broke
 
 -- what was known earlier, as a place of its own
 abbrev up-1 : After-is_broken-2 → After-is_broken
-up-1 c = record { before = c.before.before.before.before; type_inv = record { s = c.shared_slice_known-1.given; } }
+up-1 c = record { before = c.before.before.before.before; type_inv = record { s = c.shared_slice_known-1.given } }
 
 applies_told : (c : After-is_broken) (t : Bool) → c.is_broken.result ≡ t →
     is_broken (applies_in c.args.s.now c.args.applies) ≡ t
@@ -43,45 +42,46 @@ last_told c t =
     told c.maybe_in-2.result _ c.is_broken-5.result t c.is_broken-5.ensures c.maybe_in-2.ensures
 
 pub returns-then-is_broken : goal.returns-then-is_broken
-returns-then-is_broken c = 
+returns-then-is_broken c =
     let a = c.args in let whole = rule-none a.s.now a.applies a.dacl a.sacl a.staged a.last c.no_rule.result c.no_rule.ensures
-    (rule-applies a.s.now a.applies a.dacl a.sacl a.staged a.last (applies_told (goal.at.returns-then-is_broken c).After-is_broken true c.if-is_broken.true)) in record { value = whole.0; placed = whole.1; }
+    (rule-applies a.s.now a.applies a.dacl a.sacl a.staged a.last (applies_told (goal.at.returns-then-is_broken c).After-is_broken true c.if-is_broken.true)) in record { value = whole.0; placed = whole.1 }
 
 pub returns-then-is_broken-2 : goal.returns-then-is_broken-2
-returns-then-is_broken-2 c = 
+returns-then-is_broken-2 c =
     let a = c.args in let whole = rule-none a.s.now a.applies a.dacl a.sacl a.staged a.last c.no_rule-then-is_broken-2.result c.no_rule-then-is_broken-2.ensures
     (rule-dacl a.s.now a.applies a.dacl a.sacl a.staged a.last (fine (goal.at.returns-then-is_broken-2 c).After-is_broken-2)
-    (dacl_told (goal.at.returns-then-is_broken-2 c).After-is_broken-2 true c.if-is_broken-2.true)) in record { value = whole.0; placed = whole.1; }
+    (dacl_told (goal.at.returns-then-is_broken-2 c).After-is_broken-2 true c.if-is_broken-2.true)) in record { value = whole.0; placed = whole.1 }
 
 pub returns-then-is_broken-3 : goal.returns-then-is_broken-3
-returns-then-is_broken-3 c = 
+returns-then-is_broken-3 c =
     let a = c.args in let whole = rule-none a.s.now a.applies a.dacl a.sacl a.staged a.last c.no_rule-then-is_broken-3.result c.no_rule-then-is_broken-3.ensures
     (rule-sacl a.s.now a.applies a.dacl a.sacl a.staged a.last (fine (goal.at.returns-then-is_broken-3 c).After-is_broken-2)
     (dacl_told (goal.at.returns-then-is_broken-3 c).After-is_broken-2 false c.if-is_broken-2.false)
-    (sacl_told (goal.at.returns-then-is_broken-3 c).After-is_broken-3 true c.if-is_broken-3.true)) in record { value = whole.0; placed = whole.1; }
+    (sacl_told (goal.at.returns-then-is_broken-3 c).After-is_broken-3 true c.if-is_broken-3.true)) in record { value = whole.0; placed = whole.1 }
 
 pub returns-then-is_broken-4 : goal.returns-then-is_broken-4
-returns-then-is_broken-4 c = 
+returns-then-is_broken-4 c =
     let a = c.args in let whole = rule-none a.s.now a.applies a.dacl a.sacl a.staged a.last c.no_rule-then-is_broken-4.result c.no_rule-then-is_broken-4.ensures
     (rule-staged a.s.now a.applies a.dacl a.sacl a.staged a.last (fine (goal.at.returns-then-is_broken-4 c).After-is_broken-2)
     (dacl_told (goal.at.returns-then-is_broken-4 c).After-is_broken-2 false c.if-is_broken-2.false)
     (sacl_told (goal.at.returns-then-is_broken-4 c).After-is_broken-3 false c.if-is_broken-3.false)
-    (staged_told (goal.at.returns-then-is_broken-4 c).After-is_broken-4 true c.if-is_broken-4.true)) in record { value = whole.0; placed = whole.1; }
+    (staged_told (goal.at.returns-then-is_broken-4 c).After-is_broken-4 true c.if-is_broken-4.true)) in record { value = whole.0; placed = whole.1 }
 
 pub returns-then-is_broken-5 : goal.returns-then-is_broken-5
-returns-then-is_broken-5 c = 
+returns-then-is_broken-5 c =
     let a = c.args in let whole = rule-none a.s.now a.applies a.dacl a.sacl a.staged a.last c.no_rule-then-is_broken-5.result c.no_rule-then-is_broken-5.ensures
     (rule-last a.s.now a.applies a.dacl a.sacl a.staged a.last (fine (goal.at.returns-then-is_broken-5 c).After-is_broken-2)
     (dacl_told (goal.at.returns-then-is_broken-5 c).After-is_broken-2 false c.if-is_broken-2.false)
     (sacl_told (goal.at.returns-then-is_broken-5 c).After-is_broken-3 false c.if-is_broken-3.false)
     (staged_told (goal.at.returns-then-is_broken-5 c).After-is_broken-4 false c.if-is_broken-4.false)
-    (last_told (goal.at.returns-then-is_broken-5 c).After-is_broken-5 true c.if-is_broken-5.true)) in record { value = whole.0; placed = whole.1; }
+    (last_told (goal.at.returns-then-is_broken-5 c).After-is_broken-5 true c.if-is_broken-5.true)) in record { value = whole.0; placed = whole.1 }
 
 pub returns : goal.returns
-returns c = 
+returns c =
     let a = c.args in
     let p = c.requires in
-    record { value = rule_found a.s.now a.applies a.dacl a.sacl a.staged a.last (fine (goal.at.returns c).After-is_broken-2)
+    record {
+      value = rule_found a.s.now a.applies a.dacl a.sacl a.staged a.last (fine (goal.at.returns c).After-is_broken-2)
           (dacl_told (goal.at.returns c).After-is_broken-2 false c.if-is_broken-2.false)
           (sacl_told (goal.at.returns c).After-is_broken-3 false c.if-is_broken-3.false)
           (staged_told (goal.at.returns c).After-is_broken-4 false c.if-is_broken-4.false)
@@ -89,4 +89,6 @@ returns c =
           c.is_unread.result c.applies_in-applies_scan.result c.list_in-effective_scan.result
           c.maybe_in-staged_scan.result
           c.applies_in-applies_scan.ensures c.list_in-effective_scan.ensures
-          c.maybe_in-staged_scan.ensures c.is_unread.ensures; placed = (p.lies_5.1, (p.lies, (p.lies_2, (p.lies_3, (p.lies_4, p.lies_5))))); }
+          c.maybe_in-staged_scan.ensures c.is_unread.ensures;
+      placed = (p.lies_5.1, (p.lies, (p.lies_2, (p.lies_3, (p.lies_4, p.lies_5)))));
+    }

@@ -6,7 +6,6 @@ use mathlib.Core.Path.{◌≡◌, ap, ◌∙◌}
 use mathlib.Core.Bool.{Bool, ◌||◌}
 use native.Mathlib.Omega.{arith}
 use borrow.Author.Tests.{lt-ltb, le-ltb}
-use borrow.Author.Rules.{rules}
 use Rattle.passes.specs.Chains.{shown}
 use Rattle.policy.specs.Policy.{bytes_of}
 use Rattle.policy.specs.Rules.{there}
@@ -41,7 +40,7 @@ pub slice_bounds-result-end-then-start-end : goal.slice_bounds-result-end-then-s
 slice_bounds-result-end-then-start-end c = let p = c.requires in omega (arith, p.1.1.0, p.1.1.1.1.0)
 
 pub returns-then-start-end : goal.returns-then-start-end
-returns-then-start-end c = 
+returns-then-start-end c =
     let a = c.args in
     narrowed-staged a.kind (shown a.heads.now a.seats.now a.listing.now) a.hits a.privileges a.before
     (lists_by_lengths a.s.now a.r)
@@ -51,7 +50,7 @@ returns-then-start-end c =
     (lt-ltb _ _ c.if-start-end.true)
 
 pub returns : goal.returns
-returns c = 
+returns c =
     let a = c.args in
     narrowed-plain a.kind (shown a.heads.now a.seats.now a.listing.now) a.hits a.privileges a.before
     (lists_by_lengths a.s.now a.r)

@@ -1,17 +1,15 @@
 -- `policy::rules::ruled_by` meets its contract. The loop's invariant: what all rules leave is what the rules ahead leave of what is left
 -- so far. The measure is the number of rules ahead. Assumes nothing.
-use Prim.Native.Nat.{ℕ, ◌-◌, ◌≤◌}
-use mathlib.Core.Path.{◌≡◌, sym, ap, ◌∙◌}
+use Prim.Native.Nat.{ℕ}
+use mathlib.Core.Path.{sym, ap, ◌∙◌}
 use native.Mathlib.Omega.{arith}
-use borrow.Author.Rules.{rules}
 use Rattle.passes.specs.Chains.{shown}
-use Rattle.policy.specs.Rules.{unruled, ruled_by}
-use Rattle.policy.specs.ByLengths.{rules_by_lengths}
+use Rattle.policy.specs.Rules.{unruled}
 use Rattle.policy.proofs.RulesSteps.{Left, left_end, left-stop, left-more}
 use Rattle.policy.proofs.rules.ruled_by.Goals as goal
 
 pub loop-k-init : goal.loop-k-init
-loop-k-init c = 
+loop-k-init c =
     let a = c.args in (
       omega arith,
       ap
@@ -21,16 +19,15 @@ loop-k-init c =
     )
 
 pub returns-then-next-eq0 : goal.returns-then-next-eq0
-returns-then-next-eq0 c = 
+returns-then-next-eq0 c =
     let a = c.args in
     sym
     (c.loop-k.invariant.1
     ∙ left-stop a.kind (shown a.heads.now a.seats.now a.listing.now) a.hits a.privileges a.s.now c.loop-k.so_far c.u32_at-n.result c.loop-k.k c.loop-k.place c.rule_by_lengths-r.result (omega arith) c.rule_by_lengths-r.ensures.value c.if-next-eq0.true)
 
 pub loop-k-preserved : goal.loop-k-preserved
-loop-k-preserved c = 
-    let a = c.args in
-    (
+loop-k-preserved c =
+    let a = c.args in (
       omega arith,
       c.loop-k.invariant.1
           ∙ left-more a.kind (shown a.heads.now a.seats.now a.listing.now) a.hits a.privileges a.s.now c.loop-k.so_far
@@ -39,6 +36,6 @@ loop-k-preserved c =
     )
 
 pub returns : goal.returns
-returns c = 
+returns c =
     let a = c.args in
     sym (c.loop-k.invariant.1 ∙ left_end a.kind (shown a.heads.now a.seats.now a.listing.now) a.hits a.privileges a.s.now c.loop-k.so_far c.u32_at-n.result c.loop-k.k c.loop-k.place (omega arith))

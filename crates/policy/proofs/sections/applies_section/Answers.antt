@@ -1,6 +1,5 @@
 -- `policy::sections::applies_section` meets its contract: one law for each way out. Assumes nothing.
 use mathlib.Core.Path.{sym, ◌∙◌}
-use borrow.Author.Rules.{rules}
 use Rattle.policy.proofs.SectionSteps.{applies-empty, applies-long, applies-judged}
 use Rattle.policy.proofs.sections.applies_section.Goals as goal
 
@@ -11,6 +10,6 @@ pub returns-then-l-gt65536 : goal.returns-then-l-gt65536
 returns-then-l-gt65536 c = sym (applies-long c.args.l.now c.if-l-eq0.false c.if-l-gt65536.true)
 
 pub returns : goal.returns
-returns c = 
+returns c =
     c.judge.ensures
     ∙ sym (applies-judged c.args.l.now c.if-l-eq0.false c.if-l-gt65536.false)

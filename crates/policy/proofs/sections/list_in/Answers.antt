@@ -1,6 +1,5 @@
 -- `policy::sections::list_in` meets its contract: the part lent is the section's bytes. Assumes nothing.
 use borrow.Author.Tests.{eq-eqb, ne_eqb}
-use borrow.Author.Rules.{rules}
 use Rattle.policy.proofs.sections.list_in.Goals as goal
 
 pub returns-then-to-eq0 : goal.returns-then-to-eq0

@@ -1,6 +1,5 @@
 -- `policy::sections::maybe_acl` meets its contract: one law for each way out. Assumes nothing.
 use mathlib.Core.Path.{sym, ◌∙◌}
-use borrow.Author.Rules.{rules}
 use Rattle.policy.proofs.SectionSteps.{maybe-empty, maybe-there}
 use Rattle.policy.proofs.sections.maybe_acl.Goals as goal
 
@@ -8,6 +7,6 @@ pub returns-then-l-eq0 : goal.returns-then-l-eq0
 returns-then-l-eq0 c = let a = c.args in sym (maybe-empty a.deep a.l.now c.if-l-eq0.true)
 
 pub returns : goal.returns
-returns c = 
+returns c =
     let a = c.args in
     c.acl_section.ensures ∙ sym (maybe-there a.deep a.l.now c.if-l-eq0.false)

@@ -3,7 +3,6 @@ use Prim.Native.Nat.{ℕ}
 use mathlib.Core.Path.{sym, ap, ◌∙◌}
 use mathlib.Core.Bool.{false}
 use native.Mathlib.Omega.{arith}
-use borrow.Author.Rules.{rules}
 use Rattle.policy.proofs.PolicySteps.{Left, standing-empty, standing-long, standing-short, standing-other}
 use Rattle.policy.proofs.PolicySteps.{standing-many, standing-rules}
 use Rattle.policy.proofs.shape.judge_policy.Goals as goal
@@ -18,17 +17,17 @@ pub returns-then-s-lt5 : goal.returns-then-s-lt5
 returns-then-s-lt5 c = sym (standing-short c.args.s.now (omega arith) c.if-s-eq0.false c.if-s-lt5.true)
 
 pub returns-then-s-ne1 : goal.returns-then-s-ne1
-returns-then-s-ne1 c = 
+returns-then-s-ne1 c =
     let s = c.args.s.now in
     sym (standing-other s (omega arith) (omega arith) c.if-s-ne1.true)
 
 pub returns-then-n-gt256 : goal.returns-then-n-gt256
-returns-then-n-gt256 c = 
+returns-then-n-gt256 c =
     let s = c.args.s.now in
     sym (standing-many s (omega arith) (omega arith) (omega arith) (omega arith))
 
 pub returns : goal.returns
-returns c = 
+returns c =
     let s = c.args.s.now in
     c.judge_rules.ensures
     ∙ ap (λ (n : ℕ). Left s false n 5) c.u32_at-n.ensures

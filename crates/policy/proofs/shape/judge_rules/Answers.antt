@@ -1,11 +1,9 @@
 -- `policy::shape::judge_rules` meets its contract. The loop's invariant: the standing of all rules is that of the rules that are left,
 -- after something unread was met or not. The measure is the number of rules left. Assumes nothing.
-use Prim.Native.Nat.{ℕ, ◌-◌, ◌≤◌}
-use mathlib.Core.Path.{◌≡◌, sym, ap, ◌∙◌}
+use Prim.Native.Nat.{ℕ}
+use mathlib.Core.Path.{sym, ap, ◌∙◌}
 use mathlib.Core.Bool.{Bool, false, cond}
 use native.Mathlib.Omega.{arith}
-use borrow.Author.Rules.{rules}
-use Rattle.policy.specs.Policy.{standing, rules_shaped, rules_unread}
 use Rattle.policy.specs.declared.shape.Standing.TheVariants.{Sound, Unread}
 use Rattle.policy.proofs.PolicySteps.{Left, rules-end, rules-over, rules-broken, rules-more}
 use Rattle.policy.proofs.shape.judge_rules.Goals as goal
@@ -14,14 +12,13 @@ pub loop-k-init : goal.loop-k-init
 loop-k-init c = let a = c.args in (omega arith, ap (λ (m : ℕ). Left a.s.now false m 5) (omega arith))
 
 pub returns-then-next-eq0 : goal.returns-then-next-eq0
-returns-then-next-eq0 c = 
+returns-then-next-eq0 c =
     let a = c.args in
     sym (c.loop-k.invariant.1 ∙ rules-broken a.s.now c.loop-k.unread a.n c.loop-k.k c.loop-k.at c.rule_at-r.result (omega arith) c.rule_at-r.ensures.value c.if-next-eq0.true)
 
 pub loop-k-preserved : goal.loop-k-preserved
-loop-k-preserved c = 
-    let a = c.args in
-    (
+loop-k-preserved c =
+    let a = c.args in (
       omega arith,
       c.loop-k.invariant.1
           ∙ rules-more a.s.now c.loop-k.unread a.n c.loop-k.k c.loop-k.at c.rule_at-r.result c.either-unread.result (omega arith) c.rule_at-r.ensures.value
@@ -29,12 +26,12 @@ loop-k-preserved c =
     )
 
 pub returns-then-at-s : goal.returns-then-at-s
-returns-then-at-s c = 
+returns-then-at-s c =
     let a = c.args in
     sym (c.loop-k.invariant.1 ∙ rules-over a.s.now c.loop-k.unread a.n c.loop-k.k c.loop-k.at (omega arith) (λ q. omega (arith, c.if-at-s.true)))
 
 pub returns-then-unread : goal.returns-then-unread
-returns-then-unread c = 
+returns-then-unread c =
     let a = c.args in
     sym
     (c.loop-k.invariant.1
@@ -42,7 +39,7 @@ returns-then-unread c =
     ∙ ap (λ (t : Bool). cond t Unread Sound) c.if-unread.true)
 
 pub returns : goal.returns
-returns c = 
+returns c =
     let a = c.args in
     sym
     (c.loop-k.invariant.1

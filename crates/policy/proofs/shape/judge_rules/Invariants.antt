@@ -1,13 +1,9 @@
 -- `policy::shape::judge_rules` meets its contract. The loop's invariant: the standing of all rules is that of the rules that are left,
 -- after something unread was met or not. The measure is the number of rules left. Assumes nothing.
-use Prim.Native.Nat.{ℕ, ◌-◌, ◌≤◌}
-use mathlib.Core.Path.{◌≡◌, sym, ap, ◌∙◌}
-use mathlib.Core.Bool.{Bool, false, cond}
-use native.Mathlib.Omega.{arith}
-use borrow.Author.Rules.{rules}
+use Prim.Native.Nat.{◌-◌, ◌≤◌}
+use mathlib.Core.Path.{◌≡◌}
 use Rattle.policy.specs.Policy.{standing, rules_shaped, rules_unread}
-use Rattle.policy.specs.declared.shape.Standing.TheVariants.{Sound, Unread}
-use Rattle.policy.proofs.PolicySteps.{Left, rules-end, rules-over, rules-broken, rules-more}
+use Rattle.policy.proofs.PolicySteps.{Left}
 use Rattle.policy.proofs.shape.judge_rules.Given as goal
 
 abbrev pub invariant-loop-k : goal.invariant-loop-k

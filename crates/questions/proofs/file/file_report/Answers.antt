@@ -3,7 +3,6 @@
 use mathlib.Core.Path.{refl}
 use native.Mathlib.Omega.{arith}
 use lib.ListN.{length}
-use borrow.Author.Rules.{rules}
 use borrow.Author.Tests.{not-true, not-false}
 use Rattle.questions.specs.Blobs.{question_in}
 use Rattle.questions.specs.QuestionFile.{file_report}
@@ -12,20 +11,20 @@ use Rattle.access.proofs.ReportLaws.{lent_refused}
 use Rattle.questions.proofs.file.file_report.Goals as goal
 
 pub returns-then-s-gt65536 : goal.returns-then-s-gt65536
-returns-then-s-gt65536 c = 
+returns-then-s-gt65536 c =
     let a = c.args in
     lent_refused a.lent (length a.out.now) 12 (file_report a.s.now) a.out.now _ _
     (file_long a.s.now (omega (arith, c.if-s-gt65536.true))) c.untraced.ensures.0 c.untraced.ensures.1 refl
 
 pub returns-then-not-p : goal.returns-then-not-p
-returns-then-not-p c = 
+returns-then-not-p c =
     let a = c.args in
     let nothing = posed_none a.s.now c.parse-p.result c.parse-p.ensures.s_value (not-true c.parse-p.result.ok c.if-not-p.true) in
     lent_refused a.lent (length a.out.now) 12 (file_report a.s.now) a.out.now _ _
     (file-misshapen a.s.now (omega (arith, c.if-s-gt65536.false)) nothing) c.untraced-then-not-p.ensures.0 c.untraced-then-not-p.ensures.1 refl
 
 pub returns : goal.returns
-returns c = 
+returns c =
     let s = c.args.s.now in
     let posed = posed_some s c.parse-p.result c.parse-p.ensures.s_value (not-false c.parse-p.result.ok c.if-not-p.false) in
     rw (

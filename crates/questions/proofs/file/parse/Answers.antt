@@ -5,7 +5,6 @@ use mathlib.Core.Path.{◌≡◌}
 use mathlib.Core.List.{List}
 use Prim.Native.Nat.{ℕ}
 use native.Mathlib.Omega.{arith}
-use borrow.Author.Rules.{rules}
 use borrow.Author.Tests.{not-true, not-false}
 use Rattle.base.specs.Bytes.Read.{some}
 use Rattle.base.specs.Sevens.{number}
@@ -19,19 +18,19 @@ use Rattle.questions.proofs.file.parse.Goals.{Else-not-descriptor, Else-not-kind
 
 -- what was known earlier, as a place of its own
 abbrev up-1 : Else-not-mask → Else-not-kind
-up-1 c = record { before = c.before.before.before.before; type_inv = record { s = c.shared_slice_known-1.given; } }
+up-1 c = record { before = c.before.before.before.before; type_inv = record { s = c.shared_slice_known-1.given } }
 
 abbrev up-2 : Else-not-token → Else-not-mask
-up-2 c = record { before = c.before.before.before.before; type_inv = record { s = c.shared_slice_known-1.given; } }
+up-2 c = record { before = c.before.before.before.before; type_inv = record { s = c.shared_slice_known-1.given } }
 
 abbrev up-3 : Else-not-me → Else-not-token
-up-3 c = record { before = c.before.before.before.before; type_inv = record { s = c.shared_slice_known-1.given; } }
+up-3 c = record { before = c.before.before.before.before; type_inv = record { s = c.shared_slice_known-1.given } }
 
 abbrev up-4 : Else-not-descriptor → Else-not-me
-up-4 c = record { before = c.before.before.before.before; type_inv = record { s = c.shared_slice_known-1.given; } }
+up-4 c = record { before = c.before.before.before.before; type_inv = record { s = c.shared_slice_known-1.given } }
 
 abbrev up-5 : Else-not-policy → Else-not-descriptor
-up-5 c = record { before = c.before.before.before.before; type_inv = record { s = c.shared_slice_known-1.given; } }
+up-5 c = record { before = c.before.before.before.before; type_inv = record { s = c.shared_slice_known-1.given } }
 
 abbrev file-1 : Else-not-kind → List ℕ
 file-1 c = c.args.s.now
@@ -98,45 +97,45 @@ policy_at c =
 
 -- ---- the needs
 pub returns-then-not-kind : goal.returns-then-not-kind
-returns-then-not-kind c = 
+returns-then-not-kind c =
     let s = c.args.s.now in let whole = not_posed s c.nowhere.result c.nowhere.ensures
-    (no_kind s (num_none (number 32 s 0) c.number32-kind.result c.number32-kind.ensures.value (not-true c.number32-kind.result.ok c.if-not-kind.true))) in record { s_value = whole.0; places_lie = whole.1; }
+    (no_kind s (num_none (number 32 s 0) c.number32-kind.result c.number32-kind.ensures.value (not-true c.number32-kind.result.ok c.if-not-kind.true))) in record { s_value = whole.0; places_lie = whole.1 }
 
 pub returns-then-not-mask : goal.returns-then-not-mask
-returns-then-not-mask c = 
+returns-then-not-mask c =
     let at = c.number32-kind.result.next in let whole = not_posed (file-1 (goal.at.returns-then-not-mask c).Else-not-kind) c.nowhere-then-not-mask.result c.nowhere-then-not-mask.ensures
     (no-mask (file-1 (goal.at.returns-then-not-mask c).Else-not-kind) _ at (kind_at (goal.at.returns-then-not-mask c).Else-not-kind)
-    (num_none (number 32 (file-1 (goal.at.returns-then-not-mask c).Else-not-kind) at) c.number32-mask.result c.number32-mask.ensures.value (not-true c.number32-mask.result.ok c.if-not-mask.true))) in record { s_value = whole.0; places_lie = whole.1; }
+    (num_none (number 32 (file-1 (goal.at.returns-then-not-mask c).Else-not-kind) at) c.number32-mask.result c.number32-mask.ensures.value (not-true c.number32-mask.result.ok c.if-not-mask.true))) in record { s_value = whole.0; places_lie = whole.1 }
 
 pub returns-then-not-token : goal.returns-then-not-token
-returns-then-not-token c = 
+returns-then-not-token c =
     let at = c.number32-mask.result.next in let whole = not_posed (file-1 (goal.at.returns-then-not-token c).Else-not-kind) c.nowhere-then-not-token.result c.nowhere-then-not-token.ensures
     (no-token (file-1 (goal.at.returns-then-not-token c).Else-not-kind) _ _ (kind_at (goal.at.returns-then-not-token c).Else-not-kind) _ _ (mask_at (goal.at.returns-then-not-token c).Else-not-mask)
-    (handed_none (file-1 (goal.at.returns-then-not-token c).Else-not-kind) at c.blob_at-token.result c.blob_at-token.ensures.at_value (not-true c.blob_at-token.result.ok c.if-not-token.true))) in record { s_value = whole.0; places_lie = whole.1; }
+    (handed_none (file-1 (goal.at.returns-then-not-token c).Else-not-kind) at c.blob_at-token.result c.blob_at-token.ensures.at_value (not-true c.blob_at-token.result.ok c.if-not-token.true))) in record { s_value = whole.0; places_lie = whole.1 }
 
 pub returns-then-not-me : goal.returns-then-not-me
-returns-then-not-me c = 
+returns-then-not-me c =
     let at = c.blob_at-token.result.to in let whole = not_posed (file-1 (goal.at.returns-then-not-me c).Else-not-kind) c.nowhere-then-not-me.result c.nowhere-then-not-me.ensures
     (no_self (file-1 (goal.at.returns-then-not-me c).Else-not-kind) _ _ (kind_at (goal.at.returns-then-not-me c).Else-not-kind) _ _ (mask_at (goal.at.returns-then-not-me c).Else-not-mask) _ _ (token_at (goal.at.returns-then-not-me c).Else-not-token)
-    (handed_none (file-1 (goal.at.returns-then-not-me c).Else-not-kind) at c.blob_at-me.result c.blob_at-me.ensures.at_value (not-true c.blob_at-me.result.ok c.if-not-me.true))) in record { s_value = whole.0; places_lie = whole.1; }
+    (handed_none (file-1 (goal.at.returns-then-not-me c).Else-not-kind) at c.blob_at-me.result c.blob_at-me.ensures.at_value (not-true c.blob_at-me.result.ok c.if-not-me.true))) in record { s_value = whole.0; places_lie = whole.1 }
 
 pub returns-then-not-descriptor : goal.returns-then-not-descriptor
-returns-then-not-descriptor c = 
+returns-then-not-descriptor c =
     let at = c.blob_at-me.result.to in let whole = not_posed (file-1 (goal.at.returns-then-not-descriptor c).Else-not-kind) c.nowhere-then-not-descriptor.result c.nowhere-then-not-descriptor.ensures
     (no-descriptor (file-1 (goal.at.returns-then-not-descriptor c).Else-not-kind) _ _ (kind_at (goal.at.returns-then-not-descriptor c).Else-not-kind) _ _ (mask_at (goal.at.returns-then-not-descriptor c).Else-not-mask) _ _ (token_at (goal.at.returns-then-not-descriptor c).Else-not-token) _ _ (self_at (goal.at.returns-then-not-descriptor c).Else-not-me)
-    (handed_none (file-1 (goal.at.returns-then-not-descriptor c).Else-not-kind) at c.blob_at-descriptor.result c.blob_at-descriptor.ensures.at_value (not-true c.blob_at-descriptor.result.ok c.if-not-descriptor.true))) in record { s_value = whole.0; places_lie = whole.1; }
+    (handed_none (file-1 (goal.at.returns-then-not-descriptor c).Else-not-kind) at c.blob_at-descriptor.result c.blob_at-descriptor.ensures.at_value (not-true c.blob_at-descriptor.result.ok c.if-not-descriptor.true))) in record { s_value = whole.0; places_lie = whole.1 }
 
 pub returns-then-not-policy : goal.returns-then-not-policy
-returns-then-not-policy c = 
+returns-then-not-policy c =
     let at = c.blob_at-descriptor.result.to in let whole = not_posed (file-1 (goal.at.returns-then-not-policy c).Else-not-kind) c.nowhere-then-not-policy.result c.nowhere-then-not-policy.ensures
     (no-policy (file-1 (goal.at.returns-then-not-policy c).Else-not-kind) _ _ (kind_at (goal.at.returns-then-not-policy c).Else-not-kind) _ _ (mask_at (goal.at.returns-then-not-policy c).Else-not-mask) _ _ (token_at (goal.at.returns-then-not-policy c).Else-not-token) _ _ (self_at (goal.at.returns-then-not-policy c).Else-not-me) _ _ (descriptor_at (goal.at.returns-then-not-policy c).Else-not-descriptor)
-    (handed_none (file-1 (goal.at.returns-then-not-policy c).Else-not-kind) at c.blob_at-policy.result c.blob_at-policy.ensures.at_value (not-true c.blob_at-policy.result.ok c.if-not-policy.true))) in record { s_value = whole.0; places_lie = whole.1; }
+    (handed_none (file-1 (goal.at.returns-then-not-policy c).Else-not-kind) at c.blob_at-policy.result c.blob_at-policy.ensures.at_value (not-true c.blob_at-policy.result.ok c.if-not-policy.true))) in record { s_value = whole.0; places_lie = whole.1 }
 
 pub returns-then-policy-s : goal.returns-then-policy-s
-returns-then-policy-s c = 
+returns-then-policy-s c =
     let whole = not_posed (file-1 (goal.at.returns-then-policy-s c).Else-not-kind) c.nowhere-then-policy-s.result c.nowhere-then-policy-s.ensures
     (more-follows (file-1 (goal.at.returns-then-policy-s c).Else-not-kind) _ _ (kind_at (goal.at.returns-then-policy-s c).Else-not-kind) _ _ (mask_at (goal.at.returns-then-policy-s c).Else-not-mask) _ _ (token_at (goal.at.returns-then-policy-s c).Else-not-token) _ _ (self_at (goal.at.returns-then-policy-s c).Else-not-me)
-    _ _ (descriptor_at (goal.at.returns-then-policy-s c).Else-not-descriptor) _ _ (policy_at (goal.at.returns-then-policy-s c).Else-not-policy) c.if-policy-s.true) in record { s_value = whole.0; places_lie = whole.1; }
+    _ _ (descriptor_at (goal.at.returns-then-policy-s c).Else-not-descriptor) _ _ (policy_at (goal.at.returns-then-policy-s c).Else-not-policy) c.if-policy-s.true) in record { s_value = whole.0; places_lie = whole.1 }
 
 pub overflow_cast-result : goal.overflow_cast-result
 overflow_cast-result c = omega (arith, c.number32-kind.ensures.value_bound)
@@ -145,11 +144,14 @@ pub overflow_cast-result-2 : goal.overflow_cast-result-2
 overflow_cast-result-2 c = omega (arith, c.number32-mask.ensures.value_bound)
 
 pub returns : goal.returns
-returns c = 
-    record { s_value = whole-question (file-1 (goal.at.returns c).Else-not-kind) _ _ (kind_at (goal.at.returns c).Else-not-kind) _ _ (mask_at (goal.at.returns c).Else-not-mask) _ _ (token_at (goal.at.returns c).Else-not-token) _ _ (self_at (goal.at.returns c).Else-not-me)
-          _ _ (descriptor_at (goal.at.returns c).Else-not-descriptor) _ _ (policy_at (goal.at.returns c).Else-not-policy) c.if-policy-s.false; places_lie = record {
+returns c =
+    record {
+      s_value = whole-question (file-1 (goal.at.returns c).Else-not-kind) _ _ (kind_at (goal.at.returns c).Else-not-kind) _ _ (mask_at (goal.at.returns c).Else-not-mask) _ _ (token_at (goal.at.returns c).Else-not-token) _ _ (self_at (goal.at.returns c).Else-not-me)
+          _ _ (descriptor_at (goal.at.returns c).Else-not-descriptor) _ _ (policy_at (goal.at.returns c).Else-not-policy) c.if-policy-s.false;
+      places_lie = record {
         token = c.blob_at-token.ensures.from_le_to;
         me = c.blob_at-me.ensures.from_le_to;
         descriptor = c.blob_at-descriptor.ensures.from_le_to;
         policy = c.blob_at-policy.ensures.from_le_to;
-      }; }
+      };
+    }

@@ -1,13 +1,12 @@
 -- `question` meets its contract: the answer of a report without a buffer is that with room enough.
 -- Assumes nothing.
 use mathlib.Core.Path.{◌∙◌}
-use borrow.Author.Rules.{rules}
 use Rattle.questions.specs.QuestionFile.{file_report}
 use Rattle.questions.proofs.FileSteps.{file-told}
 use Rattle.access.proofs.ReportLaws.{unlent_answer}
 use Rattle.questions.proofs.file.question.Goals as goal
 
 pub returns : goal.returns
-returns c = 
+returns c =
     let s = c.args.s.now in
     c.file_report-t.ensures.answer ∙ unlent_answer _ (file_report s) ∙ file-told s

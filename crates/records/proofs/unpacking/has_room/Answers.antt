@@ -1,8 +1,5 @@
 -- `has_room`: four times the record fits where the record fits a quarter of the room.
 -- Assumes nothing.
-use Prim.Native.Nat.{◌*◌, ◌≤◌}
-use mathlib.Core.Path.{◌≡◌}
-use native.Mathlib.Omega.{arith}
 use borrow.Author.Tests.{le-leb, lt-leb}
 use Rattle.records.proofs.RoomLaws.{quarter_fits}
 use Rattle.records.proofs.unpacking.has_room.Goals as goal

@@ -30,13 +30,13 @@ unpack_identity-w-requires c = room-left c.requires (omega arith) (omega arith)
 
 pub returns-then-not-w : goal.returns-then-not-w
 unfolding confinement_copied
-returns-then-not-w c = record { out_after = sym (after-refused _ _ _ c.unpack_identity-w.result _ c.unpack_identity-w.ensures.out_after (capabilities_copied _) c.if-not-w.true); within = refused_within; }
+returns-then-not-w c = record { out_after = sym (after-refused _ _ _ c.unpack_identity-w.result _ c.unpack_identity-w.ensures.out_after (capabilities_copied _) c.if-not-w.true); within = refused_within }
 
 pub returns-then-not-n : goal.returns-then-not-n
 unfolding confinement_copied
-returns-then-not-n c = 
+returns-then-not-n c =
     let d = after-done _ _ _ c.unpack_identity-w.result _ c.unpack_identity-w.ensures.out_after (capabilities_copied _) c.if-not-w.false in
-    record { out_after = sym (d ∙ counted-refused 64 _ _ (λ k. copied (member_copied false) k _) _ _ c.number_to-n.result c.number_to-n.ensures.value c.if-not-n.true); within = refused_within; }
+    record { out_after = sym (d ∙ counted-refused 64 _ _ (λ k. copied (member_copied false) k _) _ _ c.number_to-n.result c.number_to-n.ensures.value c.if-not-n.true); within = refused_within }
 
 pub put_little-requires : goal.put_little-requires
 put_little-requires c = omega (arith, (counted (goal.at.put_little-requires c).Else-not-n).inside)
@@ -45,15 +45,15 @@ pub overflow_add-w : goal.overflow_add-w
 overflow_add-w c = omega (arith, (counted (goal.at.overflow_add-w c).Else-not-n).inside)
 
 pub unpack_members-requires : goal.unpack_members-requires
-unpack_members-requires c = 
+unpack_members-requires c =
     let k = counted (goal.at.unpack_members-requires c).Else-not-n in
     let few = c.number_to-n.ensures.value_le_most.0 in
     room_same (long (goal.at.unpack_members-requires c).After-out-2-1) (room-left c.requires k.fourfold (omega (arith, k.few, few)))
 
 pub returns : goal.returns
 unfolding confinement_copied
-returns c = 
+returns c =
     let d = after-done _ _ _ c.unpack_identity-w.result _ c.unpack_identity-w.ensures.out_after (capabilities_copied _) c.if-not-w.false in
     let e = counted-done 64 _ _ (λ k. copied (member_copied false) k _) _ _ c.number_to-n.result c.number_to-n.ensures.value c.if-not-n.false in
     let k = counted (goal.at.returns c).Else-not-n in
-    record { out_after = c.unpack_members.ensures.out_after ∙ rw c.put_little.ensures (sym (d ∙ e)); within = within_after k.fourfold (omega (arith, k.few, c.number_to-n.ensures.value_le_most.0)) c.unpack_members.ensures.within; }
+    record { out_after = c.unpack_members.ensures.out_after ∙ rw c.put_little.ensures (sym (d ∙ e)); within = within_after k.fourfold (omega (arith, k.few, c.number_to-n.ensures.value_le_most.0)) c.unpack_members.ensures.within }

@@ -14,19 +14,18 @@ use Rattle.records.proofs.UnpackLaws.{identity-uncounted, identity-unnamed, iden
 use Rattle.records.proofs.RoomLaws.{room-left, room_for, room_same, refused_within, within_after, number_past, limited_past}
 use Rattle.records.proofs.StepLaws.{step-refused, step-done}
 use Rattle.records.proofs.CleanLaws.{unclaimed, done_from, word_inside, count_plain, told_plain}
-use borrow.Author.Rules.{rules}
 use Rattle.records.proofs.unpacking.unpack_identity.Goals as goal
 use Rattle.records.proofs.unpacking.unpack_identity.Goals.{After-put_head, After-unpack_words-w, Else-n-ne1, Else-not-v}
 
 -- what was known earlier, as a place of its own
 abbrev up-1 : After-unpack_words-w → After-put_head
-up-1 c = record { before = c.before.before.before.before.before; type_inv = record { s = c.shared_slice_known-1.given; } }
+up-1 c = record { before = c.before.before.before.before.before; type_inv = record { s = c.shared_slice_known-1.given } }
 
 abbrev up-2 : After-unpack_words-w → Else-not-v
-up-2 c = record { before = c.before.before.before.before.before.before.before; type_inv = record { out = c.slice_known-1.given; s = c.shared_slice_known-1.given; } }
+up-2 c = record { before = c.before.before.before.before.before.before.before; type_inv = record { out = c.slice_known-1.given; s = c.shared_slice_known-1.given } }
 
 abbrev up-3 : Else-n-ne1 → After-unpack_words-w
-up-3 c = record { before = c.before.before.before.before.before.before.before; type_inv = record { s = c.shared_slice_known-1.given; } }
+up-3 c = record { before = c.before.before.before.before.before.before.before; type_inv = record { s = c.shared_slice_known-1.given } }
 
 -- count and authority are two bytes at least
 past : (c : Else-not-v) → c.args.at + 2 ≤ c.number48-v.result.next
@@ -89,12 +88,16 @@ from c =
     done_from _ _ _ _ _ _ (step-done _ _ _ c.unpack_words-w.result _ (whole (up-3 c)) c.if-not-w.false)
 
 pub returns-then-not-n : goal.returns-then-not-n
-returns-then-not-n c = record { out_after = sym (identity-uncounted _ _ _ _ c.number_to-n.result c.number_to-n.ensures.value c.if-not-n.true); within = refused_within; such = λ e. unclaimed e; }
+returns-then-not-n c = record { out_after = sym (identity-uncounted _ _ _ _ c.number_to-n.result c.number_to-n.ensures.value c.if-not-n.true); within = refused_within; such = λ e. unclaimed e }
 
 pub returns-then-not-v : goal.returns-then-not-v
-returns-then-not-v c = 
-    record { out_after = sym (identity-unnamed _ _ _ _ c.number_to-n.result c.number_to-n.ensures.value c.number48-v.result c.number48-v.ensures.value c.if-not-n.false
-          c.if-not-v.true); within = refused_within; such = λ e. unclaimed e; }
+returns-then-not-v c =
+    record {
+      out_after = sym (identity-unnamed _ _ _ _ c.number_to-n.result c.number_to-n.ensures.value c.number48-v.result c.number48-v.ensures.value c.if-not-n.false
+          c.if-not-v.true);
+      within = refused_within;
+      such = λ e. unclaimed e;
+    }
 
 pub put_head-requires : goal.put_head-requires
 put_head-requires c = (room (goal.at.put_head-requires c).Else-not-v, omega (arith, c.number_to-n.ensures.value_le_most))
@@ -109,13 +112,13 @@ pub shape_of-out-then-not-w : goal.shape_of-out-then-not-w
 shape_of-out-then-not-w c = omega (arith, long (goal.at.shape_of-out-then-not-w c).After-put_head)
 
 pub returns-then-not-w : goal.returns-then-not-w
-returns-then-not-w c = record { out_after = sym (step-refused _ _ _ c.unpack_words-w.result _ (whole (goal.at.returns-then-not-w c).After-unpack_words-w) c.if-not-w.true); within = refused_within; such = λ e. unclaimed e; }
+returns-then-not-w c = record { out_after = sym (step-refused _ _ _ c.unpack_words-w.result _ (whole (goal.at.returns-then-not-w c).After-unpack_words-w) c.if-not-w.true); within = refused_within; such = λ e. unclaimed e }
 
 pub shape_of-out-then-n-ne1 : goal.shape_of-out-then-n-ne1
 shape_of-out-then-n-ne1 c = omega (arith, long (goal.at.shape_of-out-then-n-ne1 c).After-put_head)
 
 pub returns-then-n-ne1 : goal.returns-then-n-ne1
-returns-then-n-ne1 c = record { out_after = whole (goal.at.returns-then-n-ne1 c).After-unpack_words-w; within = within (goal.at.returns-then-n-ne1 c).After-unpack_words-w; such = λ e. count_plain _ _ c.number_to-n.result c.number_to-n.ensures.value c.if-not-n.false c.if-n-ne1.true; }
+returns-then-n-ne1 c = record { out_after = whole (goal.at.returns-then-n-ne1 c).After-unpack_words-w; within = within (goal.at.returns-then-n-ne1 c).After-unpack_words-w; such = λ e. count_plain _ _ c.number_to-n.result c.number_to-n.ensures.value c.if-not-n.false c.if-n-ne1.true }
 
 pub slice_bounds-is_virtual-count : goal.slice_bounds-is_virtual-count
 slice_bounds-is_virtual-count c = from (goal.at.slice_bounds-is_virtual-count c).Else-n-ne1
@@ -130,9 +133,9 @@ pub shape_of-out : goal.shape_of-out
 shape_of-out c = omega (arith, long (goal.at.shape_of-out c).After-put_head)
 
 pub returns : goal.returns
-returns c = 
+returns c =
     let left = c.if-not-w.false in
     let e = step-done _ _ _ c.unpack_words-w.result _ (whole (goal.at.returns c).After-unpack_words-w) left in
     let i = within (goal.at.returns c).After-unpack_words-w in
     let ok = not-false c.unpack_words-w.result.ok left in
-    record { out_after = sym e; within = record { few = λ x. i.few ok; fourfold = λ x. i.fourfold ok }; such = λ x. told_plain _ _ _ _ _ _ e (fits (goal.at.returns c).Else-n-ne1) (sym c.is_virtual.ensures ∙ not-true c.is_virtual.result x); }
+    record { out_after = sym e; within = record { few = λ x. i.few ok; fourfold = λ x. i.fourfold ok }; such = λ x. told_plain _ _ _ _ _ _ e (fits (goal.at.returns c).Else-n-ne1) (sym c.is_virtual.ensures ∙ not-true c.is_virtual.result x) }

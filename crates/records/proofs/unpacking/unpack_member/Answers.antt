@@ -3,14 +3,13 @@
 use Prim.Native.Nat.{◌+◌, ◌*◌, ◌≤◌}
 use mathlib.Core.Path.{sym, ◌∙◌}
 use native.Mathlib.Omega.{arith}
-use borrow.Author.Tests.{not-true, not-false}
+use borrow.Author.Tests.{not-false}
 use lib.ListN.{length}
 use Rattle.records.specs.Unpacking.{members_room}
 use Rattle.records.proofs.UnpackLaws.{word-refused, word-done}
 use Rattle.records.proofs.StepLaws.{member-refused, member-alone, member-worded, room_identity, room_worded}
 use Rattle.records.proofs.RoomLaws.{room-left, room_for, refused_within, within_after, number_past}
 use Rattle.records.proofs.CleanLaws.{unclaimed}
-use borrow.Author.Rules.{rules}
 use Rattle.records.proofs.unpacking.unpack_member.Goals as goal
 use Rattle.records.proofs.unpacking.unpack_member.Goals.{Else-not-a}
 
@@ -37,22 +36,22 @@ pub unpack_identity-w-requires : goal.unpack_identity-w-requires
 unpack_identity-w-requires c = room-left c.requires (omega arith) (omega (arith, room_identity c.args.attrs))
 
 pub returns-then-not-w : goal.returns-then-not-w
-returns-then-not-w c = 
+returns-then-not-w c =
     let a = c.args in
-    record { out_after = sym (member-refused a.attrs _ _ _ _ c.unpack_identity-w.result _ c.unpack_identity-w.ensures.out_after c.if-not-w.true); within = refused_within; such = λ e. unclaimed e; }
+    record { out_after = sym (member-refused a.attrs _ _ _ _ c.unpack_identity-w.result _ c.unpack_identity-w.ensures.out_after c.if-not-w.true); within = refused_within; such = λ e. unclaimed e }
 
 pub returns-then-not-attrs : goal.returns-then-not-attrs
-returns-then-not-attrs c = 
+returns-then-not-attrs c =
     let a = c.args in
     let t = c.if-not-attrs.true in
-    record { out_after = member-alone a.attrs _ _ _ _ c.unpack_identity-w.result _ c.unpack_identity-w.ensures.out_after t; within = within_after (omega arith) (omega (arith, room_identity a.attrs)) c.unpack_identity-w.ensures.within; such = c.unpack_identity-w.ensures.such; }
+    record { out_after = member-alone a.attrs _ _ _ _ c.unpack_identity-w.result _ c.unpack_identity-w.ensures.out_after t; within = within_after (omega arith) (omega (arith, room_identity a.attrs)) c.unpack_identity-w.ensures.within; such = c.unpack_identity-w.ensures.such }
 
 pub returns-then-not-a : goal.returns-then-not-a
-returns-then-not-a c = 
+returns-then-not-a c =
     let a = c.args in
     let t = c.if-not-attrs.false in
     let d = member-worded a.attrs _ _ _ _ c.unpack_identity-w.result _ c.unpack_identity-w.ensures.out_after t c.if-not-w.false in
-    record { out_after = sym (d ∙ word-refused _ _ _ _ c.number32-a.result c.number32-a.ensures.value c.if-not-a.true); within = refused_within; such = λ e. unclaimed e; }
+    record { out_after = sym (d ∙ word-refused _ _ _ _ c.number32-a.result c.number32-a.ensures.value c.if-not-a.true); within = refused_within; such = λ e. unclaimed e }
 
 pub put_attributes-requires : goal.put_attributes-requires
 put_attributes-requires c = omega (arith, room (goal.at.put_attributes-requires c).Else-not-a)
@@ -61,8 +60,8 @@ pub overflow_add-result : goal.overflow_add-result
 overflow_add-result c = omega (arith, room (goal.at.overflow_add-result c).Else-not-a)
 
 pub returns : goal.returns
-returns c = 
+returns c =
     let a = c.args in
     let t = c.if-not-attrs.false in
     let d = member-worded a.attrs _ _ _ _ c.unpack_identity-w.result _ c.unpack_identity-w.ensures.out_after t c.if-not-w.false in
-    record { out_after = rw c.put_attributes.ensures (sym (d ∙ word-done _ _ _ _ c.number32-a.result c.number32-a.ensures.value c.if-not-a.false)); within = record { few = λ e. few (goal.at.returns c).Else-not-a; fourfold = λ e. fourfold (goal.at.returns c).Else-not-a }; such = c.unpack_identity-w.ensures.such; }
+    record { out_after = rw c.put_attributes.ensures (sym (d ∙ word-done _ _ _ _ c.number32-a.result c.number32-a.ensures.value c.if-not-a.false)); within = record { few = λ e. few (goal.at.returns c).Else-not-a; fourfold = λ e. fourfold (goal.at.returns c).Else-not-a }; such = c.unpack_identity-w.ensures.such }

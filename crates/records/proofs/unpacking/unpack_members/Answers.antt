@@ -1,18 +1,11 @@
 -- `unpack_members`: what the members that are left come to from here is what all came to from the start, and there is room for them.
 -- While clean, no group is virtual if none of those that are left is. The measure is how many are left.
 -- Assumes nothing.
-use Prim.Native.Nat.{◌+◌, ◌*◌, ◌≤◌}
-use mathlib.Core.Path.{◌≡◌, refl, sym, ◌∙◌}
-use mathlib.Core.Bool.{true}
+use mathlib.Core.Path.{refl, sym, ◌∙◌}
 use native.Mathlib.Omega.{arith}
 use borrow.Author.Rules.{rules}
 use borrow.Author.Tests.{not-false}
-use lib.ListN.{length}
 use Rattle.base.proofs.BoolLaws.{both}
-use Rattle.records.specs.Fields.{many, group_at}
-use Rattle.records.specs.TokenRecord.{packed_reader}
-use Rattle.records.specs.Unpacking.{outcome, copied, member_copied, members_room, Roomy}
-use Rattle.records.specs.Clean.{Such, PlainGroups}
 use Rattle.records.proofs.UnpackLaws.{copied_none, copied-refused, copied-done}
 use Rattle.records.proofs.StepLaws.{step-refused, step-done, room_more}
 use Rattle.records.proofs.RoomLaws.{room-left, room_same, refused_within}
@@ -23,19 +16,23 @@ pub loop-more-init : goal.loop-more-init
 loop-more-init c = (omega arith, omega arith, refl, c.requires, refl, λ a e x. x)
 
 pub unpack_member-w-requires : goal.unpack_member-w-requires
-unpack_member-w-requires c = 
+unpack_member-w-requires c =
     let m = room_more c.args.attrs c.loop-more.more c.loop-more-test.true in
     room_same c.loop-more.invariant.2 (room-left c.loop-more.invariant.3 (omega arith) (omega (arith, m)))
 
 pub returns-then-not-w : goal.returns-then-not-w
-returns-then-not-w c = 
+returns-then-not-w c =
     let i = c.loop-more.invariant in
     let d = step-refused _ _ _ c.unpack_member-w.result _ c.unpack_member-w.ensures.out_after c.if-not-w.true in
-    record { out_after = sym (i.4 ∙ copied-refused _ _ _ _ _ _ c.loop-more-test.true d); within = refused_within; such = λ a
-            e. unclaimed e; }
+    record {
+      out_after = sym (i.4 ∙ copied-refused _ _ _ _ _ _ c.loop-more-test.true d);
+      within = refused_within;
+      such = λ a
+          e. unclaimed e;
+    }
 
 pub loop-more-preserved : goal.loop-more-preserved
-loop-more-preserved c = 
+loop-more-preserved c =
     let i = c.loop-more.invariant in
     let t = c.loop-more-test.true in
     let left = c.if-not-w.false in
@@ -55,6 +52,6 @@ loop-more-preserved c =
     )
 
 pub returns : goal.returns
-returns c = 
+returns c =
     let i = c.loop-more.invariant in
-    record { out_after = sym (i.4 ∙ copied_none _ _ _ _ _ _ (omega arith)); within = record { few = λ e. omega arith; fourfold = λ e. omega arith }; such = λ a e. i.5 a e (groups_none _ _ _ (omega arith)); }
+    record { out_after = sym (i.4 ∙ copied_none _ _ _ _ _ _ (omega arith)); within = record { few = λ e. omega arith; fourfold = λ e. omega arith }; such = λ a e. i.5 a e (groups_none _ _ _ (omega arith)) }

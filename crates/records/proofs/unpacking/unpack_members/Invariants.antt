@@ -2,25 +2,17 @@
 -- While clean, no group is virtual if none of those that are left is. The measure is how many are left.
 -- Assumes nothing.
 use Prim.Native.Nat.{◌+◌, ◌*◌, ◌≤◌}
-use mathlib.Core.Path.{◌≡◌, refl, sym, ◌∙◌}
+use mathlib.Core.Path.{◌≡◌}
 use mathlib.Core.Bool.{true}
-use native.Mathlib.Omega.{arith}
-use borrow.Author.Rules.{rules}
-use borrow.Author.Tests.{not-false}
 use lib.ListN.{length}
-use Rattle.base.proofs.BoolLaws.{both}
 use Rattle.records.specs.Fields.{many, group_at}
 use Rattle.records.specs.TokenRecord.{packed_reader}
 use Rattle.records.specs.Unpacking.{outcome, copied, member_copied, members_room, Roomy}
 use Rattle.records.specs.Clean.{Such, PlainGroups}
-use Rattle.records.proofs.UnpackLaws.{copied_none, copied-refused, copied-done}
-use Rattle.records.proofs.StepLaws.{step-refused, step-done, room_more}
-use Rattle.records.proofs.RoomLaws.{room-left, room_same, refused_within}
-use Rattle.records.proofs.CleanLaws.{unclaimed, groups_none, groups_more}
 use Rattle.records.proofs.unpacking.unpack_members.Given as goal
 
 abbrev pub invariant-loop-more : goal.invariant-loop-more
-invariant-loop-more l = 
+invariant-loop-more l =
     (l.to + members_room l.attrs l.more ≤ l.o + members_room l.attrs l.n) × (l.to + 4 * l.at ≤ l.o + 4 * l.from) × (length l.out ≡ length l.initial.out)
     × Roomy (length l.initial.out) l.to (length l.s) l.from (members_room l.attrs l.more)
     × (outcome (copied (member_copied l.attrs) l.n l.s l.at) l.initial.out l.o ≡ outcome (copied (member_copied l.attrs) l.more l.s l.from) l.out l.to)

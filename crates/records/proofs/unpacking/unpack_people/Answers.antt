@@ -26,16 +26,16 @@ use Rattle.records.proofs.unpacking.unpack_people.Goals.{After-out-2-1, After-pu
 
 -- what was known earlier, as a place of its own
 abbrev up-1 : After-put_little → Else-not-u
-up-1 c = record { before = c.before.before.before.before.before.before; type_inv = record { out = c.slice_known-2-1.given; s = c.shared_slice_known-1.given; } }
+up-1 c = record { before = c.before.before.before.before.before.before; type_inv = record { out = c.slice_known-2-1.given; s = c.shared_slice_known-1.given } }
 
 abbrev up-2 : Else-not-g → After-put_little
-up-2 c = record { before = c.before.before.before.before.before.before.before.before.before.before; type_inv = record { s = c.shared_slice_known-1.given; } }
+up-2 c = record { before = c.before.before.before.before.before.before.before.before.before.before; type_inv = record { s = c.shared_slice_known-1.given } }
 
 abbrev up-3 : Else-not-g → After-out-2-1
-up-3 c = record { before = c.before.before.before.before.before.before.before.before.before; type_inv = record { s = c.shared_slice_known-1.given; } }
+up-3 c = record { before = c.before.before.before.before.before.before.before.before.before; type_inv = record { s = c.shared_slice_known-1.given } }
 
 abbrev up-4 : Else-not-g → Else-not-n
-up-4 c = record { before = c.before.before.before.before.before.before.before.before.before.before.before.before; type_inv = record { out = c.slice_known-2-1.given; s = c.shared_slice_known-1.given; } }
+up-4 c = record { before = c.before.before.before.before.before.before.before.before.before.before.before.before; type_inv = record { out = c.slice_known-2-1.given; s = c.shared_slice_known-1.given } }
 
 abbrev people : ℕ → List ℕ → ℕ → ℕ → Read (List ℕ)
 people flags s n at = then (copied (member_copied true) n s at) (rest_copied (confined flags) s)
@@ -115,12 +115,12 @@ unpack_identity-u-requires c = room-left c.requires (omega arith) (omega arith)
 
 pub returns-then-not-u : goal.returns-then-not-u
 unfolding people_copied
-returns-then-not-u c = 
+returns-then-not-u c =
     let r = after-refused _ _ _ c.unpack_identity-u.result _ c.unpack_identity-u.ensures.out_after (groups_copied c.args.flags _) c.if-not-u.true in
-    record { out_after = sym r; within = refused_within; such = λ x e. unclaimed e; }
+    record { out_after = sym r; within = refused_within; such = λ x e. unclaimed e }
 
 pub returns-then-not-n : goal.returns-then-not-n
-returns-then-not-n c = record { out_after = sym (user (goal.at.returns-then-not-n c).Else-not-u ∙ counted-refused 256 _ _ (people c.args.flags _) _ _ c.number_to-n.result c.number_to-n.ensures.value c.if-not-n.true); within = refused_within; such = λ z e. unclaimed e; }
+returns-then-not-n c = record { out_after = sym (user (goal.at.returns-then-not-n c).Else-not-u ∙ counted-refused 256 _ _ (people c.args.flags _) _ _ c.number_to-n.result c.number_to-n.ensures.value c.if-not-n.true); within = refused_within; such = λ z e. unclaimed e }
 
 pub put_little-requires : goal.put_little-requires
 put_little-requires c = omega (arith, (count (goal.at.put_little-requires c).Else-not-n).inside)
@@ -132,21 +132,25 @@ pub unpack_members-g-requires : goal.unpack_members-g-requires
 unpack_members-g-requires c = room_same (long (goal.at.unpack_members-g-requires c).After-out-2-1) (room-left c.requires (count (goal.at.unpack_members-g-requires c).Else-not-n).fourfold (omega (arith, few (goal.at.unpack_members-g-requires c).Else-not-n)))
 
 pub returns-then-not-g : goal.returns-then-not-g
-returns-then-not-g c = 
+returns-then-not-g c =
     let a = c.args in
-    record { out_after = sym (counted (goal.at.returns-then-not-g c).After-put_little ∙ after-refused _ _ _ c.unpack_members-g.result _ c.unpack_members-g.ensures.out_after (rest_copied (confined a.flags) a.s.now) c.if-not-g.true); within = refused_within; such = λ z e. unclaimed e; }
+    record { out_after = sym (counted (goal.at.returns-then-not-g c).After-put_little ∙ after-refused _ _ _ c.unpack_members-g.result _ c.unpack_members-g.ensures.out_after (rest_copied (confined a.flags) a.s.now) c.if-not-g.true); within = refused_within; such = λ z e. unclaimed e }
 
 pub returns-then-flags-eq0 : goal.returns-then-flags-eq0
-returns-then-flags-eq0 c = 
+returns-then-flags-eq0 c =
     let u = c.unpack_identity-u.result in
     let w = grouped_within (goal.at.returns-then-flags-eq0 c).Else-not-g in
     let ok = not-false c.unpack_members-g.result.ok c.if-not-g.false in
-    record { out_after = sym (grouped (goal.at.returns-then-flags-eq0 c).Else-not-g ∙ rest-none c.args.flags _ _ _ _ c.if-flags-eq0.true); within = record { few = λ x. omega (arith, w.few ok); fourfold = λ x. w.fourfold ok }; such = λ z e.
-            let f = sym c.both.ensures ∙ e in
-            kept (goal.at.returns-then-flags-eq0 c).Else-not-g z (both u.clean c.unpack_members-g.result.clean f).0 (both u.clean c.unpack_members-g.result.clean f).1; }
+    record {
+      out_after = sym (grouped (goal.at.returns-then-flags-eq0 c).Else-not-g ∙ rest-none c.args.flags _ _ _ _ c.if-flags-eq0.true);
+      within = record { few = λ x. omega (arith, w.few ok); fourfold = λ x. w.fourfold ok };
+      such = λ z e.
+          let f = sym c.both.ensures ∙ e in
+          kept (goal.at.returns-then-flags-eq0 c).Else-not-g z (both u.clean c.unpack_members-g.result.clean f).0 (both u.clean c.unpack_members-g.result.clean f).1;
+    }
 
 pub unpack_confinement-requires : goal.unpack_confinement-requires
-unpack_confinement-requires c = 
+unpack_confinement-requires c =
     let w = grouped_within (goal.at.unpack_confinement-requires c).Else-not-g in
     let ok = not-false c.unpack_members-g.result.ok c.if-not-g.false in
     room_same (grouped_long (goal.at.unpack_confinement-requires c).Else-not-g) (room-left c.requires (w.fourfold ok) (omega (arith, w.few ok)))
@@ -155,8 +159,8 @@ pub shape_of-out : goal.shape_of-out
 shape_of-out c = omega (arith, grouped_long (goal.at.shape_of-out c).Else-not-g)
 
 pub returns : goal.returns
-returns c = 
+returns c =
     let a = c.args in
     let g = grouped_within (goal.at.returns c).Else-not-g in
     let ok = not-false c.unpack_members-g.result.ok c.if-not-g.false in
-    record { out_after = c.unpack_confinement.ensures.out_after ∙ sym (grouped (goal.at.returns c).Else-not-g ∙ rest_some a.flags _ _ _ _ c.if-flags-eq0.false); within = within_after (g.fourfold ok) (omega (arith, g.few ok)) c.unpack_confinement.ensures.within; such = λ z e. absurd (c.if-flags-eq0.false (unflagged a.flags z)); }
+    record { out_after = c.unpack_confinement.ensures.out_after ∙ sym (grouped (goal.at.returns c).Else-not-g ∙ rest_some a.flags _ _ _ _ c.if-flags-eq0.false); within = within_after (g.fourfold ok) (omega (arith, g.few ok)) c.unpack_confinement.ensures.within; such = λ z e. absurd (c.if-flags-eq0.false (unflagged a.flags z)) }

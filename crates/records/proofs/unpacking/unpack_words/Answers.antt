@@ -1,12 +1,11 @@
 -- `unpack_words`: what the words that are left come to from here is what all came to from the start, and there is room for them. The
 -- measure is how many are left.
 -- Assumes nothing.
-use Prim.Native.Nat.{◌+◌, ◌*◌, ◌≤◌}
-use mathlib.Core.Path.{◌≡◌, refl, sym, ◌∙◌}
+use Prim.Native.Nat.{◌+◌, ◌≤◌}
+use mathlib.Core.Path.{refl, sym, ◌∙◌}
 use native.Mathlib.Omega.{arith}
 use borrow.Author.Rules.{rules}
 use lib.ListN.{length}
-use Rattle.records.specs.Unpacking.{outcome, copied, word_at, Roomy}
 use Rattle.records.proofs.UnpackLaws.{copied_none, copied-refused, copied-done, word-refused, word-done}
 use Rattle.records.proofs.RoomLaws.{room-left, room_for, refused_within, number_past}
 use Rattle.records.proofs.unpacking.unpack_words.Goals as goal
@@ -23,10 +22,10 @@ pub loop-more-init : goal.loop-more-init
 loop-more-init c = (refl, omega arith, refl, c.requires, refl)
 
 pub returns-then-not-w : goal.returns-then-not-w
-returns-then-not-w c = 
+returns-then-not-w c =
     let i = c.loop-more.invariant in
     let w = word-refused _ _ _ _ c.word32-w.result c.word32-w.ensures.value c.if-not-w.true in
-    record { out_after = sym (i.4 ∙ copied-refused _ _ _ _ _ _ c.loop-more-test.true w); within = refused_within; }
+    record { out_after = sym (i.4 ∙ copied-refused _ _ _ _ _ _ c.loop-more-test.true w); within = refused_within }
 
 pub put_little-requires : goal.put_little-requires
 put_little-requires c = omega (arith, room (goal.at.put_little-requires c).Else-not-w)
@@ -35,7 +34,7 @@ pub overflow_add-to : goal.overflow_add-to
 overflow_add-to c = omega (arith, room (goal.at.overflow_add-to c).Else-not-w)
 
 pub loop-more-preserved : goal.loop-more-preserved
-loop-more-preserved c = 
+loop-more-preserved c =
     let i = c.loop-more.invariant in
     let w = word-done _ _ _ _ c.word32-w.result c.word32-w.ensures.value c.if-not-w.false in
     let d = copied-done _ _ _ _ _ _ _ _ _ c.loop-more-test.true w in
@@ -48,6 +47,6 @@ loop-more-preserved c =
     )
 
 pub returns : goal.returns
-returns c = 
+returns c =
     let i = c.loop-more.invariant in
-    record { out_after = sym (i.4 ∙ copied_none _ _ _ _ _ _ (omega arith)); within = record { few = λ e. omega arith; fourfold = λ e. omega arith }; }
+    record { out_after = sym (i.4 ∙ copied_none _ _ _ _ _ _ (omega arith)); within = record { few = λ e. omega arith; fourfold = λ e. omega arith } }

@@ -2,17 +2,13 @@
 -- measure is how many are left.
 -- Assumes nothing.
 use Prim.Native.Nat.{◌+◌, ◌*◌, ◌≤◌}
-use mathlib.Core.Path.{◌≡◌, refl, sym, ◌∙◌}
-use native.Mathlib.Omega.{arith}
-use borrow.Author.Rules.{rules}
+use mathlib.Core.Path.{◌≡◌}
 use lib.ListN.{length}
 use Rattle.records.specs.Unpacking.{outcome, copied, word_at, Roomy}
-use Rattle.records.proofs.UnpackLaws.{copied_none, copied-refused, copied-done, word-refused, word-done}
-use Rattle.records.proofs.RoomLaws.{room-left, room_for, refused_within, number_past}
 use Rattle.records.proofs.unpacking.unpack_words.Given as goal
 
 abbrev pub invariant-loop-more : goal.invariant-loop-more
-invariant-loop-more l = 
+invariant-loop-more l =
     (l.to + 4 * l.more ≡ l.o + 4 * l.n) × (l.to + 4 * l.at ≤ l.o + 4 * l.from) × (length l.out ≡ length l.initial.out)
     × Roomy (length l.initial.out) l.to (length l.s) l.from (4 * l.more)
     × (outcome (copied word_at l.n l.s l.at) l.initial.out l.o ≡ outcome (copied word_at l.more l.s l.from) l.out l.to)

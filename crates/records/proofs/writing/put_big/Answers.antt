@@ -5,7 +5,6 @@ use native.Mathlib.Omega.{arith}
 use lib.ListN.{length-set}
 use Rattle.base.specs.Bytes.{big}
 use Rattle.base.proofs.WriteLaws.{add_two, add_three, add_four, add_five}
-use borrow.Author.Rules.{rules}
 use Rattle.records.proofs.writing.put_big.Goals as goal
 
 pub bounds-out-o-2 : goal.bounds-out-o-2

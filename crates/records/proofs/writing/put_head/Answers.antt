@@ -7,7 +7,6 @@ use lib.ListN.{length, length-set}
 use lib.Seq.{sets, length-sets}
 use Rattle.base.proofs.WriteLaws.{add_two}
 use Rattle.records.proofs.HeadLaws.{head_little}
-use borrow.Author.Rules.{rules}
 use Rattle.records.proofs.writing.put_head.Goals as goal
 
 pub returns-then-v-lt256 : goal.returns-then-v-lt256

@@ -2,17 +2,14 @@
 -- is how many bytes are left.
 -- Assumes nothing.
 use Prim.Native.Nat.{◌+◌, ◌<◌, ◌≤◌, ◌^◌}
-use mathlib.Core.Path.{◌≡◌, refl, sym, ◌∙◌}
-use native.Mathlib.Omega.{arith}
-use borrow.Author.Rules.{rules}
-use lib.ListN.{length, length-set}
+use mathlib.Core.Path.{◌≡◌}
+use lib.ListN.{length}
 use lib.Seq.{sets}
 use Rattle.base.specs.Bytes.{little}
-use Rattle.base.proofs.WriteLaws.{sets_little_none, sets_little_more}
 use Rattle.records.proofs.writing.put_little.Given as goal
 
 abbrev pub invariant-loop-more : goal.invariant-loop-more
-invariant-loop-more l = 
+invariant-loop-more l =
     (l.to + l.more ≡ l.o + l.n) × (l.o + l.n ≤ length l.initial.out) × (length l.out ≡ length l.initial.out) × (l.rest < 2 ^ 64)
     × (sets l.initial.out l.o (little l.n l.v) ≡ sets l.out l.to (little l.more l.rest))
 

@@ -2,7 +2,6 @@
 -- Assumes nothing.
 use mathlib.Core.Path.{sym, ◌∙◌}
 use native.Mathlib.Omega.{arith}
-use borrow.Author.Rules.{rules}
 use Rattle.seats.proofs.KeyLaws.{last_none, last_some}
 use Rattle.seats.proofs.keys.last.Goals as goal
 

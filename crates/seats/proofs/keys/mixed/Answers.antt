@@ -1,11 +1,10 @@
 -- `mixed` meets its contract: the last pair, the two first ones after the authority where they stand, and the others in a loop. The
 -- invariant: the pairs from here on, mixed into this number, give the whole. The measure is what is left up to the last pair.
 -- Assumes nothing.
-use Prim.Native.Nat.{ℕ, ◌+◌, ◌-◌, ◌<◌, ◌≤◌}
+use Prim.Native.Nat.{ℕ, ◌+◌, ◌-◌, ◌<◌}
 use mathlib.Core.List.{List}
 use mathlib.Core.Path.{◌≡◌, sym, ◌∙◌}
 use native.Mathlib.Omega.{arith}
-use borrow.Author.Rules.{rules}
 use lib.Bits.{bit_xor}
 use lib.ListN.{length}
 use Rattle.base.specs.Bytes.{u64_at}
@@ -22,14 +21,14 @@ pub returns-then-w-lt8 : goal.returns-then-w-lt8
 returns-then-w-lt8 c = sym (mixed-short c.args.w.now c.if-w-lt8.true)
 
 pub returns-then-k-le8 : goal.returns-then-k-le8
-returns-then-k-le8 c = 
+returns-then-k-le8 c =
     let w = c.args.w.now in
     let k : length w - 8 + 8 ≡ length w = omega (arith, c.if-w-lt8.false) in
     sym (mixed-start w (length w - 8) k c.u64_at-end.result c.u64_at-end.ensures
     ∙ mixed-end w (length w - 8) k 8 c.u64_at-end.result c.if-k-le8.true)
 
 pub returns-then-k-le16 : goal.returns-then-k-le16
-returns-then-k-le16 c = 
+returns-then-k-le16 c =
     let w = c.args.w.now in
     let k : length w - 8 + 8 ≡ length w = omega (arith, c.if-w-lt8.false) in
     sym (two w k c.u64_at-end.result c.u64_at.result c.u64_at-end.ensures
@@ -37,7 +36,7 @@ returns-then-k-le16 c =
     ∙ mixed-end w (length w - 8) k 16 _ c.if-k-le16.true)
 
 pub loop-i-init : goal.loop-i-init
-loop-i-init c = 
+loop-i-init c =
     let w = c.args.w.now in
     let k : length w - 8 + 8 ≡ length w = omega (arith, c.if-w-lt8.false) in
     let more : 16 < length w - 8 = omega (arith, c.if-k-le16.false) in (
@@ -52,9 +51,8 @@ loop-i-init c =
     )
 
 pub loop-i-preserved : goal.loop-i-preserved
-loop-i-preserved c = 
-    let w = c.args.w.now in
-    (
+loop-i-preserved c =
+    let w = c.args.w.now in (
       c.loop-i.invariant.0,
       (
         omega (arith, c.loop-i-test.true),
@@ -63,6 +61,6 @@ loop-i-preserved c =
     )
 
 pub returns : goal.returns
-returns c = 
+returns c =
     let w = c.args.w.now in
     sym (c.loop-i.invariant.1.1 ∙ mixed-end w (length w - 8) c.loop-i.invariant.0 c.loop-i.i c.loop-i.x (omega arith))

@@ -1,16 +1,11 @@
 -- `mixed` meets its contract: the last pair, the two first ones after the authority where they stand, and the others in a loop. The
 -- invariant: the pairs from here on, mixed into this number, give the whole. The measure is what is left up to the last pair.
 -- Assumes nothing.
-use Prim.Native.Nat.{ℕ, ◌+◌, ◌-◌, ◌<◌, ◌≤◌}
-use mathlib.Core.List.{List}
-use mathlib.Core.Path.{◌≡◌, sym, ◌∙◌}
-use native.Mathlib.Omega.{arith}
-use borrow.Author.Rules.{rules}
-use lib.Bits.{bit_xor}
+use Prim.Native.Nat.{◌+◌, ◌-◌, ◌≤◌}
+use mathlib.Core.Path.{◌≡◌}
 use lib.ListN.{length}
-use Rattle.base.specs.Bytes.{u64_at}
 use Rattle.seats.specs.Key.{mixed}
-use Rattle.seats.proofs.KeyLaws.{Mixing, mixed-short, mixed-start, mixed-more, mixed-end}
+use Rattle.seats.proofs.KeyLaws.{Mixing}
 use Rattle.seats.proofs.keys.mixed.Given as goal
 
 abbrev pub invariant-loop-i : goal.invariant-loop-i

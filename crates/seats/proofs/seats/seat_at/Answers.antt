@@ -2,8 +2,6 @@
 -- Assumes nothing.
 use mathlib.Core.Path.{◌≡◌, sym, ap, ◌∙◌}
 use native.Mathlib.Omega.{arith}
-use borrow.Author.Rules.{rules}
-use borrow.Author.Tests.{not-true, not-false}
 use Rattle.sids.proofs.SidLaws.{sid_end_bounds}
 use Rattle.sids.specs.Sid.{sid_end}
 use Rattle.seats.specs.Seats.{allow_word, deny_word}
@@ -12,26 +10,29 @@ use Rattle.seats.proofs.SeatsLaws.{seat-at-none, seat-at-plain, seat-at-word}
 use Rattle.seats.proofs.seats.seat_at.Goals as goal
 
 pub returns-then-e-eq0 : goal.returns-then-e-eq0
-returns-then-e-eq0 c = 
+returns-then-e-eq0 c =
     let a = c.args in
     let z = seat-at-none a.s.now a.at a.attrs (sym c.sid_end-e.ensures.value ∙ c.if-e-eq0.true) in
     let n = c.no_seat.ensures in
-    record { value = n ∙ sym z; seat_lies = (
+    record {
+      value = n ∙ sym z;
+      seat_lies = (
         omega (arith, ap (λ (x : Seat). x.from) n, ap (λ (x : Seat). x.to) n),
         (omega (arith, ap (λ (x : Seat). x.to) n), omega (arith, ap (λ (x : Seat). x.next) n)),
-      ); }
+      );
+    }
 
 pub returns-then-not-attrs : goal.returns-then-not-attrs
-returns-then-not-attrs c = 
+returns-then-not-attrs c =
     let a = c.args in
     let e = c.sid_end-e.ensures.value in
     let some : sid_end a.s.now a.at ≡ 0 → ⊥ = λ z. c.if-e-eq0.false (e ∙ z) in
     let b = sid_end_bounds a.s.now a.at some in
     let p = seat-at-plain a.s.now a.at c.sid_end-e.result e c.if-e-eq0.false (omega arith) in
-    record { value = rw (c.if-not-attrs.true) (sym p); seat_lies = (omega (arith, b.0), (omega arith, omega arith)); }
+    record { value = rw (c.if-not-attrs.true) (sym p); seat_lies = (omega (arith, b.0), (omega arith, omega arith)) }
 
 pub returns : goal.returns
-returns c = 
+returns c =
     let a = c.args in
     let r = c.sid_end-e.result in
     let e = c.sid_end-e.ensures.value in
@@ -42,4 +43,4 @@ returns c =
     let p = seat-at-word a.s.now a.at r e left
     c.onward-next.result c.allows.result c.denies.result c.onward-next.ensures.value
     (c.allows.ensures ∙ ap allow_word w) (c.denies.ensures ∙ ap deny_word w) in
-    record { value = rw (c.if-not-attrs.false) (sym p); seat_lies = (omega (arith, b.0), (omega arith, omega arith)); }
+    record { value = rw (c.if-not-attrs.false) (sym p); seat_lies = (omega (arith, b.0), (omega arith, omega arith)) }

@@ -1,7 +1,6 @@
 -- `is_owner_rights` meets its contract: owner rights is a SID of one word.
 -- Assumes nothing.
 use mathlib.Core.Path.{ap, ◌∙◌}
-use borrow.Author.Rules.{rules}
 use Rattle.base.specs.Bytes.{same}
 use Rattle.sids.proofs.SingleLaws.{owner_rights_single}
 use Rattle.sids.proofs.sid.is_owner_rights.Goals as goal

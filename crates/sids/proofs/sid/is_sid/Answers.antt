@@ -5,7 +5,6 @@ use mathlib.Core.Path.{sym, ap, ◌∙◌}
 use native.Mathlib.Omega.{arith}
 use lib.ListN.{length}
 use lib.Dec.{eqb}
-use borrow.Author.Rules.{rules}
 use Rattle.sids.proofs.SidLaws.{is_sid_none, is_sid_some}
 use Rattle.sids.proofs.sid.is_sid.Goals as goal
 
@@ -13,7 +12,7 @@ pub returns-then-e-eq0 : goal.returns-then-e-eq0
 returns-then-e-eq0 c = let l = c.args.s.now in sym (is_sid_none l (omega arith))
 
 pub returns : goal.returns
-returns c = 
+returns c =
     let l = c.args.s.now in
     let e = c.sid_end-e.ensures.value in
     ap (λ (x : ℕ). eqb x (length l)) e ∙ sym (is_sid_some l (λ q. c.if-e-eq0.false (e ∙ q)))

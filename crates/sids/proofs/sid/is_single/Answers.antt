@@ -4,7 +4,6 @@ use Prim.Native.Nat.{ℕ}
 use mathlib.Core.Path.{◌≡◌, sym, ap, ◌∙◌}
 use native.Mathlib.Omega.{arith}
 use lib.Dec.{eqb}
-use borrow.Author.Rules.{rules}
 use Rattle.base.specs.Bytes.{u32_at}
 use Rattle.base.proofs.BytesLaws.{bytes_of_lt}
 use Rattle.sids.proofs.SingleLaws.{single-authority, single-word, single-long, single-miss, single-test}
@@ -14,19 +13,19 @@ pub returns-then-w-ne12 : goal.returns-then-w-ne12
 returns-then-w-ne12 c = sym (single-long _ _ _ c.if-w-ne12.true)
 
 pub returns-then-u32_at-word : goal.returns-then-u32_at-word
-returns-then-u32_at-word c = 
+returns-then-u32_at-word c =
     let a = c.args in
     let p = single-word a.authority a.word (omega arith) in
     sym (single-miss a.w.now a.authority a.word 8 a.word p (λ e. omega arith))
 
 pub returns-then-u32_at-authority : goal.returns-then-u32_at-authority
-returns-then-u32_at-authority c = 
+returns-then-u32_at-authority c =
     let a = c.args in
     let p = single-authority a.authority a.word (omega arith) in
     sym (single-miss a.w.now a.authority a.word 4 a.authority p (λ e. omega arith))
 
 pub returns : goal.returns
-returns c = 
+returns c =
     let a = c.args in
     let w = a.w.now in
     let b = bytes_of_lt w (λ i l. (c.type_inv.w i).fits) in

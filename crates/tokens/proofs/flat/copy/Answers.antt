@@ -1,11 +1,8 @@
 -- `copy`: what is left of the bytes, written from here, is the whole, written from the start. The measure is how many are left.
 -- Assumes nothing.
-use Prim.Native.Nat.{◌≤◌, ◌-◌}
-use mathlib.Core.Path.{◌≡◌, refl, sym, ◌∙◌}
+use mathlib.Core.Path.{refl, sym, ◌∙◌}
 use native.Mathlib.Omega.{arith}
-use borrow.Author.Rules.{rules}
-use lib.ListN.{length, drop, length-set}
-use lib.Seq.{sets}
+use lib.ListN.{length-set}
 use Rattle.base.proofs.WriteLaws.{copy_more, copy_done}
 use Rattle.tokens.proofs.flat.copy.Goals as goal
 
@@ -13,7 +10,7 @@ pub loop-i-init : goal.loop-i-init
 loop-i-init c = (omega arith, c.requires, refl, refl)
 
 pub loop-i-preserved : goal.loop-i-preserved
-loop-i-preserved c = 
+loop-i-preserved c =
     let i = c.loop-i.invariant in (
       omega arith,
       omega arith,
@@ -23,6 +20,6 @@ loop-i-preserved c =
     )
 
 pub returns : goal.returns
-returns c = 
+returns c =
     sym (c.loop-i.invariant.3 ∙ copy_done c.args.from.now c.loop-i.out c.loop-i.i
     (omega arith))

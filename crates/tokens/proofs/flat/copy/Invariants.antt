@@ -1,12 +1,9 @@
 -- `copy`: what is left of the bytes, written from here, is the whole, written from the start. The measure is how many are left.
 -- Assumes nothing.
 use Prim.Native.Nat.{◌≤◌, ◌-◌}
-use mathlib.Core.Path.{◌≡◌, refl, sym, ◌∙◌}
-use native.Mathlib.Omega.{arith}
-use borrow.Author.Rules.{rules}
-use lib.ListN.{length, drop, length-set}
+use mathlib.Core.Path.{◌≡◌}
+use lib.ListN.{length, drop}
 use lib.Seq.{sets}
-use Rattle.base.proofs.WriteLaws.{copy_more, copy_done}
 use Rattle.tokens.proofs.flat.copy.Given as goal
 
 abbrev pub invariant-loop-i : goal.invariant-loop-i

@@ -6,7 +6,6 @@ use mathlib.Core.Path.{◌≡◌, sym, ap, ◌∙◌}
 use mathlib.Core.Bool.{true}
 use native.Mathlib.Omega.{arith}
 use native.Mathlib.Nat.{le_trans}
-use borrow.Author.Tests.{not-true, not-false}
 use lib.Dec.{T}
 use lib.Pow.{are_bytes}
 use lib.ListN.{length}
@@ -20,7 +19,7 @@ use Rattle.tokens.proofs.flat.list_in.Goals.{After-has_room, Else-not-has_room}
 
 -- what was known earlier, as a place of its own
 abbrev up-1 : Else-not-has_room → After-has_room
-up-1 c = record { before = c.before.before; type_inv = record { room = c.slice_known-2-1.given; s = c.shared_slice_known-1.given; } }
+up-1 c = record { before = c.before.before; type_inv = record { room = c.slice_known-2-1.given; s = c.shared_slice_known-1.given } }
 
 -- what was asked of the room's length after unpacking holds of its length before
 asked : (c : After-has_room) → c.has_room.result ≡ room_fits (length c.args.room.now) (length c.args.s.now)
@@ -36,27 +35,39 @@ bytes : (c : Else-not-has_room) → T (are_bytes c.args.s.now)
 bytes c = bytes_of_lt c.args.s.now (λ i l. (c.type_inv.s i).fits)
 
 pub returns-then-u : goal.returns-then-u
-returns-then-u c = 
+returns-then-u c =
     let a = c.args in
-    record { value = kept_extent (room_fits (length a.room.now) (length a.s.now)) (read_record a.s.now) _ _ c.unpack-u.result.length
-          (c.unpack-u.ensures.read_keeping c.if-u.true) c.unpack-u.ensures.unpacked; room_after = unpacked_holding _ _ _ _ c.unpack-u.ensures.unpacked; length_in_bounds = (c.unpack-u.ensures.length_in_bounds, omega arith); }
+    record {
+      value = kept_extent (room_fits (length a.room.now) (length a.s.now)) (read_record a.s.now) _ _ c.unpack-u.result.length
+          (c.unpack-u.ensures.read_keeping c.if-u.true) c.unpack-u.ensures.unpacked;
+      room_after = unpacked_holding _ _ _ _ c.unpack-u.ensures.unpacked;
+      length_in_bounds = (c.unpack-u.ensures.length_in_bounds, omega arith);
+    }
 
 pub returns-then-not-has_room : goal.returns-then-not-has_room
-returns-then-not-has_room c = 
+returns-then-not-has_room c =
     let a = c.args in
     let short = sym (asked (goal.at.returns-then-not-has_room c).After-has_room) ∙ c.if-not-has_room.true in
-    record { value = unfit_extent (length a.room.now) a.s.now short; room_after = unpacked_holding _ _ _ _ c.unpack-u.ensures.unpacked; length_in_bounds = (omega arith, omega arith); }
+    record { value = unfit_extent (length a.room.now) a.s.now short; room_after = unpacked_holding _ _ _ _ c.unpack-u.ensures.unpacked; length_in_bounds = (omega arith, omega arith) }
 
 pub returns-then-j-ne0 : goal.returns-then-j-ne0
-returns-then-j-ne0 c = 
+returns-then-j-ne0 c =
     let a = c.args in
     let inside : c.unpack-u.result.length ≤ length c.unpack-u.new.out = search rules in
-    record { value = judged-unlisted a.s.now a.room.now _ c.unpack-u.result.length c.judge-j.result (bytes (goal.at.returns-then-j-ne0 c).Else-not-has_room) inside (fit (goal.at.returns-then-j-ne0 c).Else-not-has_room) c.unpack-u.ensures.unpacked
-          c.judge-j.ensures.value c.if-j-ne0.true; room_after = unpacked_holding _ _ _ _ c.unpack-u.ensures.unpacked; length_in_bounds = (omega arith, omega arith); }
+    record {
+      value = judged-unlisted a.s.now a.room.now _ c.unpack-u.result.length c.judge-j.result (bytes (goal.at.returns-then-j-ne0 c).Else-not-has_room) inside (fit (goal.at.returns-then-j-ne0 c).Else-not-has_room) c.unpack-u.ensures.unpacked
+          c.judge-j.ensures.value c.if-j-ne0.true;
+      room_after = unpacked_holding _ _ _ _ c.unpack-u.ensures.unpacked;
+      length_in_bounds = (omega arith, omega arith);
+    }
 
 pub returns : goal.returns
-returns c = 
+returns c =
     let a = c.args in
     let inside : c.unpack-u.result.length ≤ length c.unpack-u.new.out = search rules in
-    record { value = judged-listed a.s.now a.room.now _ c.unpack-u.result.length c.judge-j.result (bytes (goal.at.returns c).Else-not-has_room) inside (fit (goal.at.returns c).Else-not-has_room) c.unpack-u.ensures.unpacked
-          c.judge-j.ensures.value c.if-j-ne0.false; room_after = unpacked_holding _ _ _ _ c.unpack-u.ensures.unpacked; length_in_bounds = (c.unpack-u.ensures.length_in_bounds, le_trans c.judge-j.ensures.confined_at_in_bounds (part_short _ c.unpack-u.result.length)); }
+    record {
+      value = judged-listed a.s.now a.room.now _ c.unpack-u.result.length c.judge-j.result (bytes (goal.at.returns c).Else-not-has_room) inside (fit (goal.at.returns c).Else-not-has_room) c.unpack-u.ensures.unpacked
+          c.judge-j.ensures.value c.if-j-ne0.false;
+      room_after = unpacked_holding _ _ _ _ c.unpack-u.ensures.unpacked;
+      length_in_bounds = (c.unpack-u.ensures.length_in_bounds, le_trans c.judge-j.ensures.confined_at_in_bounds (part_short _ c.unpack-u.result.length));
+    }

@@ -3,7 +3,6 @@
 use native.Mathlib.Omega.{arith}
 use lib.ListN.{length}
 use Rattle.records.proofs.RoomLaws.{fits_fourfold}
-use borrow.Author.Rules.{rules}
 use Rattle.tokens.proofs.flat.to_listing.Goals as goal
 
 pub listed_by-requires : goal.listed_by-requires

@@ -2,14 +2,12 @@
 -- many are left.
 -- Assumes nothing.
 use Prim.Native.Nat.{◌≤◌}
-use mathlib.Core.Path.{◌≡◌, refl, sym, ◌∙◌}
-use native.Mathlib.Omega.{arith}
-use borrow.Author.Rules.{rules}
+use mathlib.Core.Path.{◌≡◌}
 use lib.ListN.{length}
 use Rattle.records.specs.Fields.{many}
 use Rattle.records.specs.FlatListing.{flat_identity}
 use Rattle.tokens.specs.Judging.{told, seen_of}
-use Rattle.tokens.proofs.JudgeLaws.{identity-after, seen_on, capabilities-none, capabilities-stop, capabilities-step}
+use Rattle.tokens.proofs.JudgeLaws.{seen_on}
 use Rattle.tokens.proofs.judging.judge_capabilities.Given as goal
 
 abbrev pub invariant-loop-more : goal.invariant-loop-more

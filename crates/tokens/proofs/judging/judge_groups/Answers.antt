@@ -1,40 +1,39 @@
 -- `judge_groups`: what was met so far, or is met among the groups that are left, is what is met among all. The measure is how many are
 -- left.
 -- Assumes nothing.
-use Prim.Native.Nat.{◌≤◌}
-use mathlib.Core.Path.{◌≡◌, refl, sym, ◌∙◌}
+use mathlib.Core.Path.{refl, sym, ◌∙◌}
 use native.Mathlib.Omega.{arith}
-use borrow.Author.Rules.{rules}
-use lib.ListN.{length}
-use Rattle.records.specs.Fields.{many, group_at}
-use Rattle.records.specs.FlatListing.{flat_reader}
-use Rattle.records.specs.TokenRules.{virtual_group}
-use Rattle.tokens.specs.Judging.{told}
-use Rattle.tokens.proofs.JudgeLaws.{identity-after, groups_on, groups_none, groups-stop, groups-cut, groups-step}
+use Rattle.tokens.proofs.JudgeLaws.{identity-after, groups_none, groups-stop, groups-cut, groups-step}
 use Rattle.tokens.proofs.judging.judge_groups.Goals as goal
 
 pub loop-more-init : goal.loop-more-init
 loop-more-init c = (c.requires, refl)
 
 pub returns-then-e-eq0 : goal.returns-then-e-eq0
-returns-then-e-eq0 c = 
+returns-then-e-eq0 c =
     let i = c.loop-more.invariant in
-    record { result_value = sym (i.1 ∙ groups-stop _ _ _ c.loop-more.breaks c.loop-more-test.true (sym c.sid_end-e.ensures.value
-          ∙ c.if-e-eq0.true)); next_in_bounds = omega arith; }
+    record {
+      result_value = sym (i.1 ∙ groups-stop _ _ _ c.loop-more.breaks c.loop-more-test.true (sym c.sid_end-e.ensures.value
+          ∙ c.if-e-eq0.true));
+      next_in_bounds = omega arith;
+    }
 
 pub returns-then-s-e-lt4 : goal.returns-then-s-e-lt4
-returns-then-s-e-lt4 c = 
+returns-then-s-e-lt4 c =
     let i = c.loop-more.invariant in
-    record { result_value = sym (i.1 ∙ groups-cut _ _ _ c.loop-more.breaks c.loop-more-test.true
-          c.sid_end-e.result c.sid_end-e.ensures.value c.if-e-eq0.false (omega arith)); next_in_bounds = omega arith; }
+    record {
+      result_value = sym (i.1 ∙ groups-cut _ _ _ c.loop-more.breaks c.loop-more-test.true
+          c.sid_end-e.result c.sid_end-e.ensures.value c.if-e-eq0.false (omega arith));
+      next_in_bounds = omega arith;
+    }
 
 pub is_virtual-requires : goal.is_virtual-requires
-is_virtual-requires c = 
+is_virtual-requires c =
     let a = identity-after _ _ c.sid_end-e.result c.sid_end-e.ensures.value c.if-e-eq0.false in
     (omega (arith, a), omega arith)
 
 pub loop-more-preserved : goal.loop-more-preserved
-loop-more-preserved c = 
+loop-more-preserved c =
     let i = c.loop-more.invariant in
     let d = groups-step c.args.s.now
     c.loop-more.from c.loop-more.more
@@ -44,4 +43,4 @@ loop-more-preserved c =
     (omega arith, i.1 ∙ d ∙ rw (c.either-breaks.ensures, c.is_virtual.ensures))
 
 pub returns : goal.returns
-returns c = record { result_value = sym (c.loop-more.invariant.1 ∙ groups_none _ _ _ c.loop-more.breaks (omega arith)); next_in_bounds = c.loop-more.invariant.0; }
+returns c = record { result_value = sym (c.loop-more.invariant.1 ∙ groups_none _ _ _ c.loop-more.breaks (omega arith)); next_in_bounds = c.loop-more.invariant.0 }

@@ -2,19 +2,17 @@
 -- left.
 -- Assumes nothing.
 use Prim.Native.Nat.{◌≤◌}
-use mathlib.Core.Path.{◌≡◌, refl, sym, ◌∙◌}
-use native.Mathlib.Omega.{arith}
-use borrow.Author.Rules.{rules}
+use mathlib.Core.Path.{◌≡◌}
 use lib.ListN.{length}
 use Rattle.records.specs.Fields.{many, group_at}
 use Rattle.records.specs.FlatListing.{flat_reader}
 use Rattle.records.specs.TokenRules.{virtual_group}
 use Rattle.tokens.specs.Judging.{told}
-use Rattle.tokens.proofs.JudgeLaws.{identity-after, groups_on, groups_none, groups-stop, groups-cut, groups-step}
+use Rattle.tokens.proofs.JudgeLaws.{groups_on}
 use Rattle.tokens.proofs.judging.judge_groups.Given as goal
 
 abbrev pub invariant-loop-more : goal.invariant-loop-more
-invariant-loop-more l = 
+invariant-loop-more l =
     (l.from ≤ length l.s)
     × (told virtual_group (many (group_at flat_reader) l.n l.s l.at) ≡ told (groups_on l.breaks) (many (group_at flat_reader) l.more l.s l.from))
 

@@ -7,16 +7,15 @@ use Rattle.tokens.specs.Judging.{judged_of}
 use Rattle.tokens.proofs.JudgeLaws.{identity-after, Headed}
 use Rattle.tokens.proofs.JudgePeople.{Grouped, Peopled, people-stop, people-cut, people-many, people-lost, people-restless}
 use Rattle.tokens.proofs.JudgePeople.{people-longer, people-broken, people-kept}
-use borrow.Author.Rules.{rules}
 use Rattle.tokens.proofs.judging.judge_people.Goals as goal
 use Rattle.tokens.proofs.judging.judge_people.Goals.{After-judge_groups-g, After-judge_rest-w, After-u32_at-n}
 
 -- what was known earlier, as a place of its own
 abbrev up-1 : After-judge_groups-g → After-u32_at-n
-up-1 c = record { before = c.before.before.before; type_inv = record { s = c.shared_slice_known-1.given; } }
+up-1 c = record { before = c.before.before.before; type_inv = record { s = c.shared_slice_known-1.given } }
 
 abbrev up-2 : After-judge_rest-w → After-judge_groups-g
-up-2 c = record { before = c.before.before.before.before; type_inv = record { s = c.shared_slice_known-1.given; } }
+up-2 c = record { before = c.before.before.before.before; type_inv = record { s = c.shared_slice_known-1.given } }
 
 -- the user and the count
 head : (c : After-u32_at-n) → Headed c.args.s.now 12
@@ -45,61 +44,79 @@ people c = record { groups = groups (up-2 c); grouped = c.if-not-g.false; rest =
 
 pub returns-then-e-eq0 : goal.returns-then-e-eq0
 unfolding judged_of
-returns-then-e-eq0 c = 
-    record { by_index = λ p. rw (people-stop c.args.flags p _ (sym c.sid_end-e.ensures.value
-      ∙ c.if-e-eq0.true)); confined_at_in_bounds = omega arith; }
+returns-then-e-eq0 c =
+    record {
+      by_index = λ p. rw (people-stop c.args.flags p _ (sym c.sid_end-e.ensures.value
+          ∙ c.if-e-eq0.true));
+      confined_at_in_bounds = omega arith;
+    }
 
 pub returns-then-s-e-lt4 : goal.returns-then-s-e-lt4
 unfolding judged_of
-returns-then-s-e-lt4 c = 
+returns-then-s-e-lt4 c =
     let f = c.args.flags in
-    record { by_index = λ p. rw (people-cut f p _ c.sid_end-e.result c.sid_end-e.ensures.value c.if-e-eq0.false (omega arith)); confined_at_in_bounds = omega arith; }
+    record { by_index = λ p. rw (people-cut f p _ c.sid_end-e.result c.sid_end-e.ensures.value c.if-e-eq0.false (omega arith)); confined_at_in_bounds = omega arith }
 
 pub returns-then-n-gt256 : goal.returns-then-n-gt256
 unfolding judged_of
-returns-then-n-gt256 c = 
-    record { by_index = λ p. rw (people-many c.args.flags p (head (goal.at.returns-then-n-gt256 c).After-u32_at-n)
-      c.if-n-gt256.true); confined_at_in_bounds = omega arith; }
+returns-then-n-gt256 c =
+    record {
+      by_index = λ p. rw (people-many c.args.flags p (head (goal.at.returns-then-n-gt256 c).After-u32_at-n)
+          c.if-n-gt256.true);
+      confined_at_in_bounds = omega arith;
+    }
 
 pub returns-then-not-g : goal.returns-then-not-g
 unfolding judged_of
-returns-then-not-g c = 
-    record { by_index = λ p. rw (people-lost c.args.flags p
-      (groups (goal.at.returns-then-not-g c).After-judge_groups-g) c.if-not-g.true); confined_at_in_bounds = omega arith; }
+returns-then-not-g c =
+    record {
+      by_index = λ p. rw (people-lost c.args.flags p
+          (groups (goal.at.returns-then-not-g c).After-judge_groups-g) c.if-not-g.true);
+      confined_at_in_bounds = omega arith;
+    }
 
 pub returns-then-not-w : goal.returns-then-not-w
 unfolding judged_of
-returns-then-not-w c = 
-    record { by_index = λ p. rw
-      (people-restless c.args.flags p
-      (people (goal.at.returns-then-not-w c).After-judge_rest-w) c.if-not-w.true); confined_at_in_bounds = omega arith; }
+returns-then-not-w c =
+    record {
+      by_index = λ p. rw
+          (people-restless c.args.flags p
+          (people (goal.at.returns-then-not-w c).After-judge_rest-w) c.if-not-w.true);
+      confined_at_in_bounds = omega arith;
+    }
 
 pub returns-then-w-s : goal.returns-then-w-s
-returns-then-w-s c = 
+returns-then-w-s c =
     let f = c.args.flags in
-    record { by_index = λ p. sym (people-longer f p (people (goal.at.returns-then-w-s c).After-judge_rest-w) c.if-not-w.false c.if-w-s.true); confined_at_in_bounds = omega arith; }
+    record { by_index = λ p. sym (people-longer f p (people (goal.at.returns-then-w-s c).After-judge_rest-w) c.if-not-w.false c.if-w-s.true); confined_at_in_bounds = omega arith }
 
 pub is_virtual-requires : goal.is_virtual-requires
-is_virtual-requires c = 
+is_virtual-requires c =
     let a = identity-after _ _ c.sid_end-e.result c.sid_end-e.ensures.value
     c.if-e-eq0.false in
     (omega (arith, a), omega arith)
 
 pub returns-then-either : goal.returns-then-either
-returns-then-either c = 
+returns-then-either c =
     let f = c.args.flags in
     let u = rw (c.either-u.ensures, c.is_virtual.ensures) at (sym c.either.ensures
     ∙ c.if-either.true) in
-    record { by_index = λ p. sym (people-broken f p (people (goal.at.returns-then-either c).After-judge_rest-w)
-          c.if-not-w.false c.if-w-s.false u); confined_at_in_bounds = omega arith; }
+    record {
+      by_index = λ p. sym (people-broken f p (people (goal.at.returns-then-either c).After-judge_rest-w)
+          c.if-not-w.false c.if-w-s.false u);
+      confined_at_in_bounds = omega arith;
+    }
 
 pub returns : goal.returns
-returns c = 
+returns c =
     let f = c.args.flags in
     let s = c.args.s.now in
     let b = bytes_of_lt s
     (λ i l. (c.type_inv.s i).fits) in
     let u = rw (c.either-u.ensures, c.is_virtual.ensures) at (sym c.either.ensures
     ∙ c.if-either.false) in
-    record { by_index = λ p. sym (people-kept f p (people (goal.at.returns c).After-judge_rest-w)
-          c.if-not-w.false c.if-w-s.false b u); confined_at_in_bounds = c.judge_groups-g.ensures.next_in_bounds; }
+    record {
+      by_index = λ p. sym (people-kept f p (people (goal.at.returns c).After-judge_rest-w)
+          c.if-not-w.false c.if-w-s.false b u);
+      confined_at_in_bounds = c.judge_groups-g.ensures.next_in_bounds;
+    }

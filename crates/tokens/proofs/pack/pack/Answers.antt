@@ -2,7 +2,6 @@
 use mathlib.Core.Path.{refl}
 use Rattle.records.proofs.PackRecordLaws.{record-room-1, record-room-2, record-room-3, record-room-4, record-room-5, wrote-plain}
 use Rattle.records.proofs.PackRecordLaws.{wrote-confined, flags_plain, flags_confined, rest_stands}
-use borrow.Author.Rules.{rules}
 use Rattle.tokens.proofs.pack.pack.Goals as goal
 
 pub put-a-requires : goal.put-a-requires
@@ -15,14 +14,13 @@ pub put-c-requires : goal.put-c-requires
 put-c-requires c = record-room-3 _ _ _ c.u32_at-flags.ensures c.privileges.ensures _ c.requires.1 c.put-a.ensures c.put-b.ensures
 
 pub pack_crowd-p-requires : goal.pack_crowd-p-requires
-pack_crowd-p-requires c = 
-    (
-      c.requires.0.crowd,
-      record-room-4 _ _ _ c.u32_at-flags.ensures c.privileges.ensures _ c.requires.1 c.put-a.ensures c.put-b.ensures c.put-c.ensures,
-    )
+pack_crowd-p-requires c = (
+  c.requires.0.crowd,
+  record-room-4 _ _ _ c.u32_at-flags.ensures c.privileges.ensures _ c.requires.1 c.put-a.ensures c.put-b.ensures c.put-c.ensures,
+)
 
 pub returns-then-flags-eq0 : goal.returns-then-flags-eq0
-returns-then-flags-eq0 c = 
+returns-then-flags-eq0 c =
     wrote-plain _ _ _ c.u32_at-flags.ensures c.privileges.ensures
     _ c.requires.1
     c.put-a.ensures
@@ -32,7 +30,7 @@ returns-then-flags-eq0 c =
     (flags_plain c.u32_at-flags.result c.if-flags-eq0.true)
 
 pub pack_crowd-q-requires : goal.pack_crowd-q-requires
-pack_crowd-q-requires c = 
+pack_crowd-q-requires c =
     let e = c.pack_crowd-p.ensures.from_value in
     let t = flags_confined c.u32_at-flags.result c.if-flags-eq0.false in (
       rest_stands _ _ _ c.requires.0 c.u32_at-flags.ensures e t,
@@ -46,7 +44,7 @@ pack_crowd-q-requires c =
     )
 
 pub returns : goal.returns
-returns c = 
+returns c =
     let e = c.pack_crowd-p.ensures.from_value in
     let t = flags_confined c.u32_at-flags.result c.if-flags-eq0.false in
     wrote-confined _ _ _ c.u32_at-flags.ensures c.privileges.ensures

@@ -10,7 +10,6 @@ use Rattle.sids.proofs.SidLaws.{sid_of_part}
 use Rattle.records.specs.TokenRecord.{pack_identity}
 use Rattle.records.specs.Packing.{members_bytes}
 use Rattle.records.proofs.PackLaws.{starts, crowd-is, crowd-end-is, crowd-members}
-use borrow.Author.Rules.{rules}
 use Rattle.tokens.proofs.pack.pack_crowd.Goals as goal
 
 pub slice_bounds-w-count : goal.slice_bounds-w-count
@@ -20,7 +19,7 @@ pub slice_bounds-w-start : goal.slice_bounds-w-start
 slice_bounds-w-start c = starts c.args.s.now c.args.at c.identity_end-e.result c.identity_end-e.ensures.value c.requires.0.identity
 
 pub pack_identity-a-requires : goal.pack_identity-a-requires
-pack_identity-a-requires c = 
+pack_identity-a-requires c =
     let n = u32_at c.args.s.now c.identity_end-e.result in
     let room = rw (crowd-is c.args.attrs c.args.s.now c.args.at c.identity_end-e.result n c.identity_end-e.ensures.value refl) at c.requires.1 in
     let ms = members_bytes c.args.attrs n c.args.s.now (c.identity_end-e.result + 4) in (
@@ -29,14 +28,14 @@ pack_identity-a-requires c =
     )
 
 pub put-b-requires : goal.put-b-requires
-put-b-requires c = 
+put-b-requires c =
     let room =
     rw (crowd-is c.args.attrs c.args.s.now c.args.at c.identity_end-e.result c.u32_at-n.result c.identity_end-e.ensures.value c.u32_at-n.ensures) at c.requires.1 in
     let ms = members_bytes c.args.attrs c.u32_at-n.result c.args.s.now (c.identity_end-e.result + 4) in
     room_first _ _ (packed c.u32_at-n.result) ms (room_after_lem (packed c.u32_at-n.result ++ ms) c.pack_identity-a.ensures room)
 
 pub pack_members-requires : goal.pack_members-requires
-pack_members-requires c = 
+pack_members-requires c =
     let room =
     rw (crowd-is c.args.attrs c.args.s.now c.args.at c.identity_end-e.result c.u32_at-n.result c.identity_end-e.ensures.value c.u32_at-n.ensures) at c.requires.1 in
     let ms = members_bytes c.args.attrs c.u32_at-n.result c.args.s.now (c.identity_end-e.result + 4) in (
@@ -45,6 +44,9 @@ pack_members-requires c =
     )
 
 pub returns : goal.returns
-returns c = 
-    record { wrote = wrote_same (sym (crowd-is _ _ _ _ _ c.identity_end-e.ensures.value c.u32_at-n.ensures))
-          (wrote_append c.pack_identity-a.ensures (wrote_append c.put-b.ensures c.pack_members.ensures.wrote)); from_value = c.pack_members.ensures.from_value ∙ sym (crowd-end-is _ _ _ _ _ c.identity_end-e.ensures.value c.u32_at-n.ensures); }
+returns c =
+    record {
+      wrote = wrote_same (sym (crowd-is _ _ _ _ _ c.identity_end-e.ensures.value c.u32_at-n.ensures))
+          (wrote_append c.pack_identity-a.ensures (wrote_append c.put-b.ensures c.pack_members.ensures.wrote));
+      from_value = c.pack_members.ensures.from_value ∙ sym (crowd-end-is _ _ _ _ _ c.identity_end-e.ensures.value c.u32_at-n.ensures);
+    }

@@ -7,7 +7,6 @@ use Rattle.base.proofs.WriteLaws.{room_first, room_after_lem, wrote_append, wrot
 use Rattle.sids.proofs.SidLaws.{sid_shape, is_sid_long}
 use Rattle.records.specs.TokenRecord.{packed_words}
 use Rattle.records.proofs.PackLaws.{identity_is}
-use borrow.Author.Rules.{rules}
 use Rattle.tokens.proofs.pack.pack_identity.Goals as goal
 
 pub bounds-w-1 : goal.bounds-w-1
@@ -20,13 +19,13 @@ pub authority-requires : goal.authority-requires
 authority-requires c = is_sid_long c.args.w.now c.requires.0
 
 pub put-b-requires : goal.put-b-requires
-put-b-requires c = 
+put-b-requires c =
     let ws = packed_words c.wide-n.result c.args.w.now 8 in
     let room = rw (identity_is c.args.w.now c.wide-n.result c.authority.result c.wide-n.ensures.0 c.authority.ensures) at c.requires.1 in
     room_first _ _ (packed c.authority.result) ws (room_after_lem (packed c.authority.result ++ ws) c.put-a.ensures room)
 
 pub pack_words-requires : goal.pack_words-requires
-pack_words-requires c = 
+pack_words-requires c =
     let ws = packed_words c.wide-n.result c.args.w.now 8 in
     let room = rw (identity_is c.args.w.now c.wide-n.result c.authority.result c.wide-n.ensures.0 c.authority.ensures) at c.requires.1 in
     let long = (sid_shape c.args.w.now c.requires.0).long in (
@@ -35,6 +34,6 @@ pack_words-requires c =
     )
 
 pub returns : goal.returns
-returns c = 
+returns c =
     wrote_same (sym (identity_is c.args.w.now c.wide-n.result c.authority.result c.wide-n.ensures.0 c.authority.ensures))
     (wrote_append c.put-a.ensures (wrote_append c.put-b.ensures c.pack_words.ensures))

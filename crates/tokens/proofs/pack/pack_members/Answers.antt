@@ -1,11 +1,9 @@
 -- `pack_members` meets its contract. The loop's invariant: writing all members at `o` is writing those that are left at `to` (Left), which
 -- stand from `from` on. The measure is the count that is left. Assumes nothing.
-use Prim.Native.Nat.{◌+◌, ◌-◌, ◌≤◌}
-use mathlib.Core.Path.{◌≡◌, refl, sym, ◌∙◌}
-use borrow.Author.Rules.{rules}
-use lib.ListN.{length}
-use Rattle.base.proofs.WriteLaws.{Left, left_start, left-long, left-room, left_step, left-done}
-use Rattle.records.specs.Packing.{member_bytes, member_end, members_bytes, members_end, MembersStand}
+use Prim.Native.Nat.{◌-◌}
+use mathlib.Core.Path.{refl, sym, ◌∙◌}
+use Rattle.base.proofs.WriteLaws.{left_start, left-long, left-room, left_step, left-done}
+use Rattle.records.specs.Packing.{member_bytes, member_end, members_bytes}
 use Rattle.records.proofs.PackLaws.{members_none, members_more, members_end_none, members_end_more, stand-first, stand-more}
 use Rattle.tokens.proofs.pack.pack_members.Goals as goal
 
@@ -13,7 +11,7 @@ pub loop-more-init : goal.loop-more-init
 loop-more-init c = let p = c.requires in (left_start _ _ _, p.0, refl, p.1)
 
 pub pack_member-p-requires : goal.pack_member-p-requires
-pack_member-p-requires c = 
+pack_member-p-requires c =
     let i = c.loop-more.invariant in
     let t = c.loop-more-test.true in
     let s = c.args.s.now in
@@ -27,7 +25,7 @@ pack_member-p-requires c =
     )
 
 pub loop-more-preserved : goal.loop-more-preserved
-loop-more-preserved c = 
+loop-more-preserved c =
     let i = c.loop-more.invariant in
     let t = c.loop-more-test.true in
     let e = c.pack_member-p.ensures.from_value in (
@@ -41,7 +39,7 @@ pub shape_of-out : goal.shape_of-out
 shape_of-out c = let i = c.loop-more.invariant in left-long i.0
 
 pub returns : goal.returns
-returns c = 
+returns c =
     let i = c.loop-more.invariant in
     let t = c.loop-more-test.false in
-    record { wrote = left-done i.0 (members_none _ _ _ _ t); from_value = sym (i.2 ∙ members_end_none _ _ _ _ t); }
+    record { wrote = left-done i.0 (members_none _ _ _ _ t); from_value = sym (i.2 ∙ members_end_none _ _ _ _ t) }

@@ -1,12 +1,8 @@
 -- `pack_words` meets its contract. The loop's invariant: writing all words at `o` is writing those that are left at `to` (Left). The
 -- measure is the count that is left. Assumes nothing.
-use Prim.Native.Nat.{◌+◌, ◌*◌, ◌≤◌}
 use native.Mathlib.Omega.{arith}
-use borrow.Author.Rules.{rules}
-use lib.ListN.{length}
 use Rattle.base.specs.Sevens.{packed}
-use Rattle.base.proofs.WriteLaws.{Left, left_start, left-long, left-room, left_step, left-done}
-use Rattle.records.specs.TokenRecord.{packed_words}
+use Rattle.base.proofs.WriteLaws.{left_start, left-long, left-room, left_step, left-done}
 use Rattle.records.proofs.PackLaws.{words_none, words_more}
 use Rattle.tokens.proofs.pack.pack_words.Goals as goal
 
@@ -14,13 +10,13 @@ pub loop-more-init : goal.loop-more-init
 loop-more-init c = (left_start _ _ _, omega (arith, c.requires.0), c.requires.1)
 
 pub put-to-requires : goal.put-to-requires
-put-to-requires c = 
+put-to-requires c =
     let i = c.loop-more.invariant in
     let t = c.loop-more-test.true in
     left-room i.0 (packed c.word.result) _ (words_more _ _ _ _ t c.word.ensures) i.2
 
 pub loop-more-preserved : goal.loop-more-preserved
-loop-more-preserved c = 
+loop-more-preserved c =
     let i = c.loop-more.invariant in
     let t = c.loop-more-test.true in
     (left_step i.0 _ _ (words_more _ _ _ _ t c.word.ensures) c.put-to.ensures, omega (arith, i.1), i.2)

@@ -1,12 +1,10 @@
 -- `put` meets its contract. A number below 128 is its own byte, and one of five groups is written by `put_five`. The loop's invariant:
 -- writing the number at `o` is writing the groups that are left at `i` (Writes), where there is room. The measure is the number that is
 -- left. Assumes nothing.
-use borrow.Author.Rules.{rules}
-use native.Mathlib.Omega.{arith}
 use Prim.Native.Nat.{◌^◌, ◌<◌}
-use mathlib.Core.Path.{◌≡◌, refl}
-use lib.ListN.{length, length-set}
-use Rattle.base.proofs.WriteLaws.{Writes, writes_start, writes-room, writes_more, writes-last}
+use mathlib.Core.Path.{◌≡◌}
+use lib.ListN.{length}
+use Rattle.base.proofs.WriteLaws.{Writes}
 use Rattle.tokens.proofs.pack.put.Given as goal
 
 abbrev pub invariant-loop-n : goal.invariant-loop-n

@@ -6,7 +6,6 @@ use mathlib.Core.List.{List}
 use native.Mathlib.Omega.{arith}
 use lib.ListN.{set, length-set}
 use Rattle.base.proofs.WriteLaws.{Writes, writes_start, writes-room, writes_more, writes-last}
-use borrow.Author.Rules.{rules}
 use Rattle.tokens.proofs.pack.put_five.Goals as goal
 use Rattle.tokens.proofs.pack.put_five.Goals.{Start}
 
