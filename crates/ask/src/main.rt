@@ -2,11 +2,19 @@
 // reads standard input. `ask why FILE` prints the same line and then the four masks, a line each;
 // `ask trail FILE` the same line and then the events of the audit trail, a line each. What answer
 // and trail are, refusals included, is for `questions::question` and `questions::trail_question`
-// to say. A write that fails is said on standard error; the language has no exit status to say it
-// with.
+// to say. A read or a write that fails is said on standard error, and the exit status is 0 all the
+// same; only where standard error fails too, or memory for what is said there, is it 1.
+#![tactic(auto)]
+
+ghost use Rattle.std.specs.Prelude.{◌≡◌, take, IfOk, IfSome};
+
 use answers::Answer;
-use libc::{STDERR_FILENO, STDIN_FILENO, STDOUT_FILENO};
 use lists::Rights;
+use std::alloc::Global;
+use std::env::{Env, FillError};
+use std::fs::File;
+use std::io;
+use std::io::Read;
 
 // What is asked of the question.
 #[derive(Clone, Copy)]
@@ -16,54 +24,45 @@ enum Task {
     Trail,
 }
 
-// Each function that prints answers whether all of it was written.
-fn print(text: &[u8]) -> bool {
-    io::write_all(STDOUT_FILENO, text)
-}
-
-fn print_flag(flag: bool) -> bool {
+fn flag_word(flag: bool) -> &'static str {
     if flag {
-        return print(b"yes");
+        return "yes";
     }
-    print(b"no")
+    "no"
 }
 
-fn print_refusal(status: u32) -> bool {
-    print(b"refused ") && io::print_decimal(STDOUT_FILENO, status as u64) && print(b"\n")
+// Each function that prints fails where not all of it was written.
+fn print_refusal(rt: &impl Print, status: u32) -> io::Result<()> {
+    println!(rt; "refused {status}")
+}
+
+fn print_findings(rt: &impl Print, a: Answer) -> io::Result<()> {
+    let granted = a.granted.0;
+    let allowed = flag_word(a.allowed);
+    let staged = flag_word(a.staged);
+    println!(rt; "granted 0x{granted:08x} allowed {allowed} staged {staged}")
+}
+
+fn print_answer(rt: &impl Print, a: Answer) -> io::Result<()> {
+    if a.status != 0 {
+        return print_refusal(rt, a.status);
+    }
+    print_findings(rt, a)
 }
 
 // A mask as eight digits behind its name.
-fn print_mask(name: &[u8], mask: Rights) -> bool {
-    print(name) && print(b" 0x") && io::print_hex(STDOUT_FILENO, mask.0 as u64, 8)
-}
-
-fn print_findings(a: Answer) -> bool {
-    print_mask(b"granted", a.granted)
-        && print(b" allowed ")
-        && print_flag(a.allowed)
-        && print(b" staged ")
-        && print_flag(a.staged)
-        && print(b"\n")
-}
-
-fn print_answer(a: Answer) -> bool {
-    if a.status != 0 {
-        return print_refusal(a.status);
-    }
-    print_findings(a)
-}
-
-fn print_step(name: &[u8], mask: Rights) -> bool {
-    print_mask(name, mask) && print(b"\n")
+fn print_step(rt: &impl Print, name: &str, mask: Rights) -> io::Result<()> {
+    let bits = mask.0;
+    println!(rt; "{name} 0x{bits:08x}")
 }
 
 // The answer's line, then a line for each mask, on refusal too.
-fn print_steps(a: Answer) -> bool {
-    print_answer(a)
-        && print_step(b"normal", a.normal)
-        && print_step(b"confined", a.confined)
-        && print_step(b"policy", a.ruled)
-        && print_step(b"granted", a.granted)
+fn print_steps(rt: &impl Print, a: Answer) -> io::Result<()> {
+    print_answer(rt, a)?;
+    print_step(rt, "normal", a.normal)?;
+    print_step(rt, "confined", a.confined)?;
+    print_step(rt, "policy", a.ruled)?;
+    print_step(rt, "granted", a.granted)
 }
 
 // An event of a trail, with the place after it; ok is false where there is none.
@@ -90,118 +89,150 @@ fn event_at(trail: &[u8], at: usize) -> Event {
     }
 }
 
-fn print_event(e: Event) -> bool {
-    print(b"event source ")
-        && io::print_decimal(STDOUT_FILENO, e.source)
-        && print(b" entry ")
-        && io::print_decimal(STDOUT_FILENO, e.entry)
-        && print(b" mask 0x")
-        && io::print_hex(STDOUT_FILENO, e.mask, 8)
-        && print(b"\n")
+fn print_event(rt: &impl Print, e: Event) -> io::Result<()> {
+    println!(rt;
+        "event source {} entry {} mask 0x{:08x}",
+        e.source, e.entry, e.mask
+    )
 }
 
 // A line for each event of the first `length` bytes. What the library wrote there is a trail; where
 // bytes are none, this ends.
-fn print_events(trail: &[u8], length: usize) -> bool {
+fn print_events(rt: &impl Print, trail: &[u8], length: usize) -> io::Result<()> {
     let mut at: usize = 0;
     while at < length {
         let e = event_at(trail, at);
         let next = e.next;
         if !e.ok {
-            return true;
+            return Ok(());
         }
         if next <= at {
-            return true;
+            return Ok(());
         }
-        if !print_event(e) {
-            return false;
-        }
+        print_event(rt, e)?;
         at = next;
     }
-    true
+    Ok(())
 }
 
 // The answer's line, then a line for each event; a refusal has none. The room is that of the
 // longest trail of a question file.
-fn print_trail(file: &[u8]) -> bool {
+fn print_trail(rt: &impl Print, file: &[u8]) -> io::Result<()> {
     let mut trail = [0u8; 36864];
     let t = questions::trail_question(file, &mut trail);
-    print_answer(t.answer) && print_events(&trail, t.length)
+    print_answer(rt, t.answer)?;
+    print_events(rt, &trail, t.length)
 }
 
-fn print_told(file: &[u8], t: Task) -> bool {
+fn print_told(rt: &impl Print, file: &[u8], t: Task) -> io::Result<()> {
     match t {
-        Task::Ask => print_answer(questions::question(file)),
-        Task::Why => print_steps(questions::question(file)),
-        Task::Trail => print_trail(file),
+        Task::Ask => print_answer(rt, questions::question(file)),
+        Task::Why => print_steps(rt, questions::question(file)),
+        Task::Trail => print_trail(rt, file),
     }
 }
 
-// Reads one byte more than the longest question has, so that a longer file is seen to be too long.
-// errno is 0 where the reading starts, and a read that fails sets it.
-fn answer(fd: i32, name: &[u8], t: Task) {
-    let mut file = [0u8; 65537];
-    let n = io::read_full(fd, &mut file);
-    if os::errno() != 0 {
-        os::fail(name);
-        return;
+// What an error's text says before its number.
+fn reason(said: &str) -> &str {
+    let Some((why, _)) = said.split_once(" (os error ") else {
+        return said;
+    };
+    why
+}
+
+// Writes a line to standard error: what failed, and why, in the system's words.
+fn fail(rt: &HostRuntime, what: &[u8], error: &io::Error) -> io::Result<()> {
+    let said = format!(in rt.alloc(); "{error}")?;
+    let why = reason(&said);
+    rt.stderr().write_all(what)?;
+    eprintln!(rt; ": {why}")
+}
+
+// One byte more than the longest question has, so that a longer file is seen to be too long.
+const LIMIT: u64 = 65537;
+
+// The first bytes of an input, as many as the limit.
+fn read<R: Read + Drop>(alloc: Global, input: R) -> io::Result<Vec<u8>>
+    ensures { IfOk result (λ file. IfSome (R.remaining input)
+        (λ bytes. file.items ≡ take 65537 bytes)) }
+{
+    let mut file = Vec::new(alloc);
+    input.take(LIMIT).read_to_end(&mut file)?;
+    Ok(file)
+}
+
+// What the system says of a name that is too long, and of one that is no text.
+const TOO_LONG: i32 = 36;
+
+const NO_TEXT: i32 = 84;
+
+// The bytes of the file that has a name, which has to be text.
+fn read_named(rt: &HostRuntime, name: &[u8]) -> io::Result<Vec<u8>> {
+    match str::from_utf8(name) {
+        Ok(path) => read(rt.alloc(), File::open(rt, path)?),
+        Err(_) => Err(io::Error::from_raw_os_error(NO_TEXT)),
     }
-    if !print_told(&file[..n], t) {
-        os::fail(b"standard output");
+}
+
+// Prints what is asked of what was read under a name, or says why it was not read.
+fn answer(rt: &HostRuntime, t: Task, name: &[u8], file: io::Result<Vec<u8>>) -> io::Result<()> {
+    let bytes = match file {
+        Ok(bytes) => bytes,
+        Err(e) => return fail(rt, name, &e),
+    };
+    match print_told(rt, &bytes, t) {
+        Ok(()) => Ok(()),
+        Err(e) => fail(rt, b"standard output", &e),
     }
+}
+
+// The answer to standard input.
+fn answer_input(rt: &HostRuntime, t: Task) -> io::Result<()> {
+    answer(rt, t, b"standard input", read(rt.alloc(), rt.stdin()))
 }
 
 // The answer to the file that an argument names.
-fn answer_named(i: usize, t: Task) {
-    let mut path = io::buffer();
-    let n = os::arg(i, &mut path);
-    if os::errno() != 0 {
-        os::fail(b"ask");
-        return;
+fn answer_named(rt: &HostRuntime, i: usize, t: Task) -> io::Result<()> {
+    let mut path = [0u8; 4096];
+    let Ok(n) = rt.arg(i, &mut path) else {
+        return fail(rt, b"ask", &io::Error::from_raw_os_error(TOO_LONG));
+    };
+    let name = &path[..n];
+    if base::same(name, b"-") {
+        return answer_input(rt, t);
     }
-    if base::same(&path[..n], b"-") {
-        answer(STDIN_FILENO, b"standard input", t);
-        return;
-    }
-    let fd = os::open_read(&path[..n]);
-    if fd < 0 {
-        os::fail(&path[..n]);
-        return;
-    }
-    answer(fd, &path[..n], t);
-    libc::close(fd);
+    answer(rt, t, name, read_named(rt, name))
 }
 
-// Whether the first of two arguments is this word.
-fn is_first(word: &[u8]) -> bool {
-    let mut first = io::buffer();
-    let n = os::arg(1, &mut first);
-    os::errno() == 0 && base::same(&first[..n], word)
+// Whether there is an argument at a place.
+fn is_given(rt: &impl Env, i: usize) -> bool {
+    match rt.arg(i, &mut []) {
+        Err(FillError::NotPresent) => false,
+        _ => true,
+    }
 }
 
-fn main() {
-    let count = os::arg_count();
-    if count < 2 {
-        // Reading the program's own name leaves errno at 0.
-        let mut name = io::buffer();
-        os::arg(0, &mut name);
-        answer(STDIN_FILENO, b"standard input", Task::Ask);
-        return;
+// Whether the first argument is this word; one that does not fit is longer.
+fn is_first(rt: &impl Env, word: &[u8]) -> bool {
+    let mut first = [0u8; 16];
+    match rt.arg(1, &mut first) {
+        Ok(n) => base::same(&first[..n], word),
+        Err(_) => false,
     }
-    if count == 2 {
-        answer_named(1, Task::Ask);
-        return;
+}
+
+fn main(rt: HostRuntime) -> io::Result<()> {
+    if !is_given(&rt, 1) {
+        return answer_input(&rt, Task::Ask);
     }
-    if count == 3 && is_first(b"why") {
-        answer_named(2, Task::Why);
-        return;
+    if !is_given(&rt, 2) {
+        return answer_named(&rt, 1, Task::Ask);
     }
-    if count == 3 && is_first(b"trail") {
-        answer_named(2, Task::Trail);
-        return;
+    if !is_given(&rt, 3) && is_first(&rt, b"why") {
+        return answer_named(&rt, 2, Task::Why);
     }
-    io::write_all(
-        STDERR_FILENO,
-        b"usage: ask [FILE|-] | ask why FILE|- | ask trail FILE|-\n",
-    );
+    if !is_given(&rt, 3) && is_first(&rt, b"trail") {
+        return answer_named(&rt, 2, Task::Trail);
+    }
+    eprintln!(rt; "usage: ask [FILE|-] | ask why FILE|- | ask trail FILE|-")
 }

@@ -1,8 +1,8 @@
 -- Laws of buffers. In order: `untouched-hit untouched-miss untouched-end`, a buffer from a place on; `puts-more puts-full puts-done`, a
 -- part from a place on; `fills-more crowds-more`, one time more.
 -- Assumes nothing.
-use Prim.Native.Nat.{ℕ, suc, ◌+◌, ◌≤◌, ◌<◌}
-use mathlib.Core.Path.{◌≡◌, refl}
+use Prim.Native.Nat.{ℕ, ◌+◌, ◌≤◌, ◌<◌}
+use mathlib.Core.Path.{◌≡◌}
 use mathlib.Core.List.{List}
 use mathlib.Core.Bool.{true, false}
 use native.Mathlib.Numerals.{add-one}

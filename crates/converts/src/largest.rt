@@ -5,6 +5,7 @@ ghost use Rattle.converts.specs.Buffers.{build, puts, fills, crowds, packed_crow
 ghost use Rattle.converts.specs.Buffers.{record_but_last, listing_but_last};
 
 use crate::report::{listing, pair_into, record};
+use std::io;
 
 // Copies a part to a place, as far as the buffer goes, and answers the place after it.
 fn put(out: &mut [u8], at: usize, part: &[u8]) -> usize
@@ -102,7 +103,7 @@ fn listing_but_last(out: &mut [u8]) -> usize
 }
 
 // The largest token that no rule refuses: its last capability is S-1-15-2-2.
-pub(crate) fn accepted() {
+pub(crate) fn accepted(rt: &impl Print) -> io::Result<()> {
     let mut packed = [0u8; 28021];
     let r = record_but_last(&mut packed);
     let n = put(&mut packed, r, b"\x02\x0f\x02\x02");
@@ -110,29 +111,30 @@ pub(crate) fn accepted() {
     let l = listing_but_last(&mut flat);
     let m = put(&mut flat, l, b"\x01\x02\0\0\0\0\0\x0f\x02\0\0\0\x02\0\0\0");
     if 28021 < n {
-        return;
+        return Ok(());
     }
     if 22940 < m {
-        return;
+        return Ok(());
     }
-    pair_into(b"largest", &packed[0..n], &flat[0..m], 22940, 28021);
+    pair_into(rt, b"largest", &packed[0..n], &flat[0..m], 22940, 28021)?;
     pair_into(
+        rt,
         b"largest, a byte short",
         &packed[0..n],
         &flat[0..m],
         22887,
         27941,
-    );
+    )
 }
 
 // The largest token by shape, which has no capability S-1-15-2-2.
-pub(crate) fn by_shape() {
+pub(crate) fn by_shape(rt: &impl Print) -> io::Result<()> {
     let mut record_bytes = [0u8; 28021];
     let r = record_but_last(&mut record_bytes);
     packed(&mut record_bytes, r, 1);
-    record(b"largest by shape", &record_bytes[0..28021]);
+    record(rt, b"largest by shape", &record_bytes[0..28021])?;
     let mut listing_bytes = [0u8; 22940];
     let l = listing_but_last(&mut listing_bytes);
     flat(&mut listing_bytes, l, 1);
-    listing(b"largest by shape", &listing_bytes[0..22940]);
+    listing(rt, b"largest by shape", &listing_bytes[0..22940])
 }

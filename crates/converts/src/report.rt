@@ -5,6 +5,7 @@ ghost use Rattle.records.specs.Converters.{as_listing, as_record, fitted};
 ghost use Rattle.tokens.specs.Answers.{answered};
 ghost use Rattle.converts.specs.Buffers.{untouched};
 
+use std::io;
 use testkit::{print, print_number};
 use tokens::Converted;
 
@@ -22,30 +23,29 @@ fn is_untouched(s: &[u8]) -> bool
     true
 }
 
-fn print_either(test: bool, yes: &[u8], no: &[u8]) {
+fn print_either(rt: &impl Print, test: bool, yes: &[u8], no: &[u8]) -> io::Result<()> {
     if test {
-        print(yes);
-        return;
+        return print(rt, yes);
     }
-    print(no);
+    print(rt, no)
 }
 
 // Writes one answer: what stands in the whole buffer, of which a part was lent, and what is wanted
 // there on success.
-fn print_answer(c: Converted, buffer: &[u8], wanted: &[u8]) {
-    print(b" ");
-    print_number(c.status as u64);
-    print(b" ");
-    print_number(c.length as u64);
+fn print_answer(rt: &impl Print, c: Converted, buffer: &[u8], wanted: &[u8]) -> io::Result<()> {
+    print(rt, b" ")?;
+    print_number(rt, c.status as u64)?;
+    print(rt, b" ")?;
+    print_number(rt, c.length as u64)?;
     let n = c.length;
     if buffer.len() < n {
-        print(b" TOO LONG");
-        return;
+        return print(rt, b" TOO LONG");
     }
-    print_either(is_untouched(&buffer[n..]), b" kept", b" CHANGED");
+    print_either(rt, is_untouched(&buffer[n..]), b" kept", b" CHANGED")?;
     if c.status == 0 {
-        print_either(base::same(&buffer[0..n], wanted), b" same", b" OTHER");
+        print_either(rt, base::same(&buffer[0..n], wanted), b" same", b" OTHER")?;
     }
+    Ok(())
 }
 
 // A record into the first `room` bytes of a buffer.
@@ -73,53 +73,60 @@ fn record_into(listing: &[u8], buffer: &mut [u8], room: usize) -> Converted
 }
 
 // A record into a buffer of `room` bytes, and what is wanted there.
-fn forth(record: &[u8], room: usize, listing: &[u8])
+fn forth(rt: &impl Print, record: &[u8], room: usize, listing: &[u8]) -> io::Result<()>
     requires { room ≤ 22940 }
 {
     let mut buffer = [170u8; 22940];
     let c = listing_into(record, &mut buffer, room);
-    print_answer(c, &buffer[0..22940], listing);
+    print_answer(rt, c, &buffer[0..22940], listing)
 }
 
 // A listing into a buffer of `room` bytes, and what is wanted there.
-fn back(listing: &[u8], room: usize, record: &[u8])
+fn back(rt: &impl Print, listing: &[u8], room: usize, record: &[u8]) -> io::Result<()>
     requires { room ≤ 28021 }
 {
     let mut buffer = [170u8; 28021];
     let c = record_into(listing, &mut buffer, room);
-    print_answer(c, &buffer[0..28021], record);
+    print_answer(rt, c, &buffer[0..28021], record)
 }
 
 // A token in its two forms: the listing into a buffer of `room` bytes, the record into `hold`.
-pub(crate) fn pair_into(name: &[u8], record: &[u8], listing: &[u8], room: usize, hold: usize)
+pub(crate) fn pair_into(
+    rt: &impl Print,
+    name: &[u8],
+    record: &[u8],
+    listing: &[u8],
+    room: usize,
+    hold: usize,
+) -> io::Result<()>
     requires { (room ≤ 22940) × (hold ≤ 28021) }
 {
-    print(name);
-    print(b":");
-    forth(record, room, listing);
-    print(b",");
-    back(listing, hold, record);
-    print(b"\n");
+    print(rt, name)?;
+    print(rt, b":")?;
+    forth(rt, record, room, listing)?;
+    print(rt, b",")?;
+    back(rt, listing, hold, record)?;
+    print(rt, b"\n")
 }
 
-fn print_case(form: &[u8], length: usize, name: &[u8]) {
-    print(form);
-    print_number(length as u64);
-    print(b" bytes, ");
-    print(name);
-    print(b":");
+fn print_case(rt: &impl Print, form: &[u8], length: usize, name: &[u8]) -> io::Result<()> {
+    print(rt, form)?;
+    print_number(rt, length as u64)?;
+    print(rt, b" bytes, ")?;
+    print(rt, name)?;
+    print(rt, b":")
 }
 
 // A record that is refused.
-pub(crate) fn record(name: &[u8], s: &[u8]) {
-    print_case(b"record of ", s.len(), name);
-    forth(s, 22940, b"");
-    print(b"\n");
+pub(crate) fn record(rt: &impl Print, name: &[u8], s: &[u8]) -> io::Result<()> {
+    print_case(rt, b"record of ", s.len(), name)?;
+    forth(rt, s, 22940, b"")?;
+    print(rt, b"\n")
 }
 
 // A listing that is refused.
-pub(crate) fn listing(name: &[u8], s: &[u8]) {
-    print_case(b"listing of ", s.len(), name);
-    back(s, 28021, b"");
-    print(b"\n");
+pub(crate) fn listing(rt: &impl Print, name: &[u8], s: &[u8]) -> io::Result<()> {
+    print_case(rt, b"listing of ", s.len(), name)?;
+    back(rt, s, 28021, b"")?;
+    print(rt, b"\n")
 }

@@ -1,51 +1,54 @@
 // The entries of some lists, as the entry reader shows them: a line for each list, and one for each
 // entry with its type, flags, mask and the bytes of its SID. The lines in `stdout` are decided from
 // the page and not from this program.
+#![tactic(auto)]
+
 ghost use Rattle.std.specs.Prelude.{◌<◌};
 
 use lists::{Ace, Extent};
 use reader::Step;
+use std::io;
 use testkit::{print, print_bytes, print_hex};
 
 // Writes an entry's type.
-fn kind(k: u8) {
+fn kind(rt: &impl Print, k: u8) -> io::Result<()> {
     if k == 0 {
-        print(b"  allow");
-        return;
+        return print(rt, b"  allow");
     }
-    print(b"  deny");
+    print(rt, b"  deny")
 }
 
 // Writes the line of an entry of the list.
-fn show(list: &[u8], a: Ace) {
-    kind(a.kind);
-    print(b" flags ");
-    print_hex(base::wide(a.flags) as u64, 2);
-    print(b" mask ");
-    print_hex(a.mask.0 as u64, 8);
-    print(b" sid ");
-    print_bytes(lists::part(
+fn show(rt: &impl Print, list: &[u8], a: Ace) -> io::Result<()> {
+    kind(rt, a.kind)?;
+    print(rt, b" flags ")?;
+    print_hex(rt, base::wide(a.flags) as u64, 2)?;
+    print(rt, b" mask ")?;
+    print_hex(rt, a.mask.0 as u64, 8)?;
+    print(rt, b" sid ")?;
+    let sid = lists::part(
         list,
         Extent {
             from: a.from,
             to: a.to,
         },
-    ));
-    print(b"\n");
+    );
+    print_bytes(rt, sid)?;
+    print(rt, b"\n")
 }
 
 // Writes the lines of a list: its name, then an entry after the other, to the end.
-fn listed(name: &[u8], list: &[u8]) {
-    print(name);
-    print(b"\n");
+fn listed(rt: &impl Print, name: &[u8], list: &[u8]) -> io::Result<()> {
+    print(rt, name)?;
+    print(rt, b"\n")?;
     let own = reader::held(list);
     let mut at: usize = 8;
     let mut step = reader::first(list);
     loop {
         let Step::Entry(a) = step else {
-            return;
+            return Ok(());
         };
-        show(own, a);
+        show(rt, own, a)?;
         step = reader::after(own, at);
         at = a.next;
     }
@@ -53,19 +56,19 @@ fn listed(name: &[u8], list: &[u8]) {
 
 // Two entries of 16 bytes, allow 1 to S-1-5 at 8 and deny 2 to S-1-7 at 24 with flag 8, with
 // another byte at a place.
-fn changed(name: &[u8], at: usize, v: u8)
+fn changed(rt: &impl Print, name: &[u8], at: usize, v: u8) -> io::Result<()>
     requires { at < 40 }
 {
     let mut l = *b"\x02\0\x28\0\x02\0\0\0\
         \0\0\x10\0\x01\0\0\0\x01\0\0\0\0\0\0\x05\
         \x01\x08\x10\0\x02\0\0\0\x01\0\0\0\0\0\0\x07";
     l[at] = v;
-    listed(name, &l[0..40]);
+    listed(rt, name, &l[0..40])
 }
 
 // An allow entry of 32 bytes, whose 16 spare bytes look like a deny entry, and a deny entry of 16
 // after it; with another byte at a place.
-fn spared(name: &[u8], at: usize, v: u8)
+fn spared(rt: &impl Print, name: &[u8], at: usize, v: u8) -> io::Result<()>
     requires { at < 56 }
 {
     let mut l = *b"\x02\0\x38\0\x02\0\0\0\
@@ -73,26 +76,26 @@ fn spared(name: &[u8], at: usize, v: u8)
         \x01\0\x10\0\x02\0\0\0\x01\0\0\0\0\0\0\x07\
         \x01\0\x10\0\x04\0\0\0\x01\0\0\0\0\0\0\x06";
     l[at] = v;
-    listed(name, &l[0..56]);
+    listed(rt, name, &l[0..56])
 }
 
-fn main() {
+fn main(rt: HostRuntime) -> io::Result<()> {
     let d = testkit::descriptor();
-    listed(b"the DACL of D", lists::dacl(&d[0..64]));
-    listed(b"the SACL of D", lists::sacl(&d[0..64]));
-    changed(b"two entries", 0, 2);
-    changed(b"count 1, and 16 bytes after the last", 4, 1);
-    changed(b"count 0", 4, 0);
-    changed(b"count 3", 4, 3);
-    changed(b"type 5 in the second place", 24, 5);
-    changed(b"size 12 in the first place", 10, 12);
-    changed(b"size 20 in the second place", 26, 20);
-    changed(b"a SID of one word in the second place", 33, 1);
-    changed(b"size 32 in the first place", 10, 32);
-    spared(b"16 spare bytes that look like an entry", 0, 2);
-    spared(b"the same, with a SID of four words", 17, 4);
-    spared(b"the same, with a SID of five words", 17, 5);
-    spared(b"the same, with count 1", 4, 1);
-    spared(b"the same, with size 48", 10, 48);
-    spared(b"the same, with size 16", 10, 16);
+    listed(&rt, b"the DACL of D", lists::dacl(&d[0..64]))?;
+    listed(&rt, b"the SACL of D", lists::sacl(&d[0..64]))?;
+    changed(&rt, b"two entries", 0, 2)?;
+    changed(&rt, b"count 1, and 16 bytes after the last", 4, 1)?;
+    changed(&rt, b"count 0", 4, 0)?;
+    changed(&rt, b"count 3", 4, 3)?;
+    changed(&rt, b"type 5 in the second place", 24, 5)?;
+    changed(&rt, b"size 12 in the first place", 10, 12)?;
+    changed(&rt, b"size 20 in the second place", 26, 20)?;
+    changed(&rt, b"a SID of one word in the second place", 33, 1)?;
+    changed(&rt, b"size 32 in the first place", 10, 32)?;
+    spared(&rt, b"16 spare bytes that look like an entry", 0, 2)?;
+    spared(&rt, b"the same, with a SID of four words", 17, 4)?;
+    spared(&rt, b"the same, with a SID of five words", 17, 5)?;
+    spared(&rt, b"the same, with count 1", 4, 1)?;
+    spared(&rt, b"the same, with size 48", 10, 48)?;
+    spared(&rt, b"the same, with size 16", 10, 16)
 }

@@ -4,8 +4,8 @@
 -- digits; `fill_start`, before the first turn of `filled`; `fill-full fill_end
 -- fill_done fill-short fill-bad fill_more`, one for each way through a turn.
 -- Assumes nothing.
-use Prim.Native.Nat.{ℕ, zero, suc, ◌+◌, ◌-◌, ◌*◌, ◌≤◌, ◌<◌}
-use mathlib.Core.Path.{◌≡◌, refl, ap}
+use Prim.Native.Nat.{ℕ, suc, ◌+◌, ◌-◌, ◌*◌, ◌≤◌, ◌<◌}
+use mathlib.Core.Path.{◌≡◌, ap}
 use mathlib.Core.List.{List}
 use mathlib.Core.Bool.{true, false}
 use native.Mathlib.Omega.{arith}
@@ -14,7 +14,7 @@ use borrow.Author.Tests.{le-leb, lt-leb, lt-ltb, le-ltb, eq-eqb, ne_eqb}
 use lib.ListN.{length, drop, set, drop_of_length-le}
 use lib.Seq.{drop-cons}
 use Rattle.base.specs.Bytes.{byte_at, part, same}
-use Rattle.testkit.specs.Text.{no_place, after, line_length, next_line, digit, byte_of, Filling, unfilled, good, filled}
+use Rattle.testkit.specs.Text.{no_place, after, line_length, next_line, digit, byte_of, unfilled, good, filled}
 
 module _ (text : List ℕ) (at : ℕ) (words : List ℕ) where
   pub after-outside : length text < at + length words → after text at words ≡ no_place

@@ -1,5 +1,5 @@
 -- Files of cases: words at a place, lines, and bytes in pairs of hexadecimal digits.
-use Rattle.std.specs.Prelude.{ℕ, zero, suc, ◌+◌, ◌-◌, ◌*◌, ◌^◌, List, [], ◌∷◌, Bool, true, false, cond, length, drop, set, ltb, leb, eqb}
+use Rattle.std.specs.Prelude.{ℕ, zero, suc, ◌+◌, ◌-◌, ◌*◌, ◌^◌, List, [], ◌∷◌, true, false, cond, length, drop, set, ltb, leb, eqb}
 use Rattle.base.specs.Bytes.{byte_at, part, same}
 use Rattle.testkit.specs.declared.text.Hex.{Hex}
 

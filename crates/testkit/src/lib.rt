@@ -1,6 +1,8 @@
 // What the programs that are tests share: writing to standard output, reading the text files that
 // have their cases, and the bytes of descriptor D. What is written, and what a file has, no
-// contract of the kit can say; every other result is stated.
+// contract can say; every other result is stated.
+#![tactic(auto)]
+
 mod printing;
 mod sample;
 mod text;

@@ -1,27 +1,27 @@
-// Writing to standard output. A function here answers nothing, and what it writes no contract of
-// the kit can say.
-use libc::STDOUT_FILENO;
+// Writing to standard output, which the runtime stands for. A function here fails where not all of
+// it was written; what it writes no contract can say.
+use std::io;
 
 // Writes bytes as they are.
-pub fn print(text: &[u8]) {
-    io::write_all(STDOUT_FILENO, text);
+pub fn print(rt: &impl Print, text: &[u8]) -> io::Result<()> {
+    rt.write_all(text)
 }
 
 // Writes a number in decimal digits.
-pub fn print_number(n: u64) {
-    io::print_decimal(STDOUT_FILENO, n);
+pub fn print_number(rt: &impl Print, n: u64) -> io::Result<()> {
+    print!(rt; "{n}")
 }
 
-// Writes a number in so many hexadecimal digits, or in more where it needs them.
-pub fn print_hex(n: u64, width: usize) {
-    io::print_hex(STDOUT_FILENO, n, width);
+// Writes a number in so many hexadecimal digits, at most 16, or in more where it needs them.
+pub fn print_hex(rt: &impl Print, n: u64, width: usize) -> io::Result<()> {
+    let width = width.min(16);
+    print!(rt; "{n:0width$x}")
 }
 
 // Writes bytes in hexadecimal digits, two each.
-pub fn print_bytes(s: &[u8]) {
-    let mut i: usize = 0;
-    while i < s.len() {
-        print_hex(base::wide(s[i]) as u64, 2);
-        i += 1;
+pub fn print_bytes(rt: &impl Print, s: &[u8]) -> io::Result<()> {
+    for b in s {
+        print_hex(rt, u64::from(*b), 2)?;
     }
+    Ok(())
 }

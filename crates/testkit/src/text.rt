@@ -1,27 +1,75 @@
 // Files of cases: their lines, words and hexadecimal bytes.
-ghost use Rattle.std.specs.Prelude.{◌≡◌, ◌-◌, ◌≤◌, length};
+ghost use Rattle.std.specs.Prelude.{◌≡◌, ◌-◌, ◌≤◌, length, IfOk};
 ghost use Rattle.testkit.specs.Text.{after, next_line, digit, byte_of, hex_bytes};
 
 use crate::printing::print;
+use std::fs::File;
+use std::io;
+use std::io::Read;
 
 // Reads a file into a buffer and answers how many bytes it has: 0, after a line that says why,
-// where it cannot be read or leaves no room in the buffer.
-pub fn read(name: &[u8], out: &mut [u8]) -> usize
-    ensures { result ≤ length out.new }
+// where it cannot be opened or leaves no room in the buffer. A read or a write that fails is an
+// error.
+pub fn read(rt: &HostRuntime, name: &[u8], out: &mut [u8]) -> io::Result<usize>
+    ensures { IfOk result (λ n. n ≤ length out.new) }
 {
-    let fd = os::open_read(name);
-    if fd < 0 {
-        os::fail(name);
-        return 0;
-    }
-    let n = io::read_full(fd, out);
-    libc::close(fd);
+    let mut file = match open(rt, name) {
+        Ok(file) => file,
+        Err(e) => {
+            fail(rt, name, &e)?;
+            return Ok(0);
+        }
+    };
+    let n = fill(&mut file, out)?;
     if n == out.len() {
-        print(name);
-        print(b": too long\n");
-        return 0;
+        print(rt, name)?;
+        print(rt, b": too long\n")?;
+        return Ok(0);
     }
-    n
+    Ok(n)
+}
+
+// What the system says of a name that is no text.
+const NO_TEXT: i32 = 84;
+
+// Opens a file, whose name has to be text.
+fn open(rt: &HostRuntime, name: &[u8]) -> io::Result<File> {
+    match str::from_utf8(name) {
+        Ok(path) => File::open(rt, path),
+        Err(_) => Err(io::Error::from_raw_os_error(NO_TEXT)),
+    }
+}
+
+// What an error's text says before its number.
+fn reason(said: &str) -> &str {
+    let Some((why, _)) = said.split_once(" (os error ") else {
+        return said;
+    };
+    why
+}
+
+// Writes a line to standard error: what failed, and why, in the system's words.
+fn fail(rt: &HostRuntime, name: &[u8], error: &io::Error) -> io::Result<()> {
+    let said = format!(in rt.alloc(); "{error}")?;
+    let why = reason(&said);
+    let err = rt.stderr();
+    print(&err, name)?;
+    print!(err; ": {why}\n")
+}
+
+// Reads until a buffer is full or the file ends, and answers how many bytes that are.
+fn fill(file: &mut impl Read, out: &mut [u8]) -> io::Result<usize>
+    ensures { IfOk result (λ n. n ≤ length out.new) }
+{
+    let mut done = 0;
+    while done < out.len() {
+        let n = file.read(&mut out[done..])?;
+        if n == 0 {
+            break;
+        }
+        done += n;
+    }
+    Ok(done)
 }
 
 // What `after` answers where the words do not stand.

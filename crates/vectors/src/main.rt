@@ -1,11 +1,14 @@
 // Runs the vector files: for each its name, how many cases it has and how many differ, after a line
 // for each case that differs. The number of cases in `stdout` is counted apart from this program.
+#![tactic(auto)]
+
 mod ask;
 mod convert;
 mod text;
 
 ghost use Rattle.std.specs.Prelude.{◌≡◌, if◌then◌else◌};
 
+use std::io;
 use testkit::{after, next_line, print, print_number};
 
 // What two lines that follow each other are.
@@ -81,29 +84,29 @@ struct Score {
 }
 
 // Counts a case, and writes a line where it differs.
-fn counted(name: &[u8], c: Score, found: u8) -> Score {
+fn counted(rt: &impl Print, name: &[u8], c: Score, found: u8) -> io::Result<Score> {
     if found == NO_CASE {
-        return c;
+        return Ok(c);
     }
-    let cases = std::num::wrapping_add_u64(c.cases, 1);
+    let cases = c.cases.wrapping_add(1);
     if found == AGREES {
-        return Score {
+        return Ok(Score {
             cases,
             differ: c.differ,
-        };
+        });
     }
-    print(name);
-    print(b": case ");
-    print_number(cases);
-    print(b" differs\n");
-    Score {
+    print(rt, name)?;
+    print(rt, b": case ")?;
+    print_number(rt, cases)?;
+    print(rt, b" differs\n")?;
+    Ok(Score {
         cases,
-        differ: std::num::wrapping_add_u64(c.differ, 1),
-    }
+        differ: c.differ.wrapping_add(1),
+    })
 }
 
 // Goes through a text line by line.
-fn count(name: &[u8], text: &[u8]) -> Score {
+fn count(rt: &impl Print, name: &[u8], text: &[u8]) -> io::Result<Score> {
     let mut c = Score {
         cases: 0,
         differ: 0,
@@ -112,35 +115,35 @@ fn count(name: &[u8], text: &[u8]) -> Score {
     while at < text.len() {
         let next = next_line(text, at);
         let found = case(&text[at..next], &text[next..]);
-        c = counted(name, c, found);
+        c = counted(rt, name, c, found)?;
         at = next;
     }
-    c
+    Ok(c)
 }
 
-fn report(name: &[u8], text: &[u8]) {
-    let c = count(name, text);
-    print(name);
-    print(b": ");
-    print_number(c.cases);
-    print(b" cases, ");
-    print_number(c.differ);
-    print(b" differ\n");
+fn report(rt: &impl Print, name: &[u8], text: &[u8]) -> io::Result<()> {
+    let c = count(rt, name, text)?;
+    print(rt, name)?;
+    print(rt, b": ")?;
+    print_number(rt, c.cases)?;
+    print(rt, b" cases, ")?;
+    print_number(rt, c.differ)?;
+    print(rt, b" differ\n")
 }
 
 // Reads a vector file and runs its cases.
-fn run(name: &[u8]) {
-    let mut text = [0u8; 524288];
-    let n = testkit::read(name, &mut text);
-    report(name, &text[0..n]);
+fn run(rt: &HostRuntime, name: &[u8]) -> io::Result<()> {
+    let mut text = vec![in rt.alloc(); 0u8; 524288]?;
+    let n = testkit::read(rt, name, &mut text)?;
+    report(rt, name, &text[0..n])
 }
 
-fn main() {
-    run(b"cards.txt");
-    run(b"refusals.txt");
-    run(b"descriptors.txt");
-    run(b"policies.txt");
-    run(b"answers.txt");
-    run(b"large.txt");
-    run(b"tokens.txt");
+fn main(rt: HostRuntime) -> io::Result<()> {
+    run(&rt, b"cards.txt")?;
+    run(&rt, b"refusals.txt")?;
+    run(&rt, b"descriptors.txt")?;
+    run(&rt, b"policies.txt")?;
+    run(&rt, b"answers.txt")?;
+    run(&rt, b"large.txt")?;
+    run(&rt, b"tokens.txt")
 }

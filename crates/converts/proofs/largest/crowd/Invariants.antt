@@ -1,0 +1,12 @@
+-- `crowd` meets its contract. The invariant: after i turns there are i identities; the measure is how many are left. Assumes nothing.
+use Prim.Native.Nat.{◌≤◌, ◌-◌}
+use mathlib.Core.Path.{◌≡◌}
+use lib.ListN.{length}
+use Rattle.converts.specs.Buffers.{build, crowds}
+use Rattle.converts.proofs.largest.crowd.Given as goal
+
+abbrev pub invariant-loop-i : goal.invariant-loop-i
+invariant-loop-i l = (l.i ≤ l.times) × (length l.out ≡ length l.initial.out) × (build l.out l.to ≡ crowds l.head l.word l.tail l.i (build l.initial.out l.at))
+
+abbrev pub decreases-loop-i : goal.decreases-loop-i
+decreases-loop-i l = l.times - l.i

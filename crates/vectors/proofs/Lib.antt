@@ -1,0 +1,2 @@
+-- Laws of numbers in a line.
+mod NumberLaws
