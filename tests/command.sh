@@ -276,7 +276,7 @@ for words in '--help' '-h' 'ask --help' 'why -h' 'trail --help' 'token list -h';
     try "help: $words" 0 '0 0 0' '' "\$PIRASTEH $words >text; for word in 'an unproved shell over the proved library' 'answered, and not allowed' '  12  '; do grep -qF -- \"\$word\" text; echo \$?; done | paste -sd' '"
 done
 
-# The proved programs: the same lines; the language has no exit status, so it is always 0.
+# The proved programs: the same lines; their exit status does not say what they answered, and is 0.
 run_here() { [ -x "$bin/$1" ] && "$bin/ask" c1 >/dev/null 2>&1; }
 if run_here ask && run_here token; then
     export ASK=$bin/ask TOKEN=$bin/token

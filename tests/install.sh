@@ -132,6 +132,7 @@ without() { # what has to be named, script and words
     expect "what scripts/$1 says without $missing" 1 "$(grep -c "^[a-z-]*: \`$missing\` is not on the path: " <<<"$said")"
 }
 without rt archive out
+without rt programs out
 without cargo build out
 without cargo install prefix
 without cargo bench
@@ -142,6 +143,21 @@ without cc install prefix
 ln -s "$(command -v cc)" "$tools/cc"
 without rt build out
 without rt install prefix
+# On another processor than the one that the kit compiles for, that is said.
+printf '#!/bin/sh\n' >"$tools/rt"
+printf '#!/bin/sh\necho aarch64\n' >"$tools/uname"
+chmod +x "$tools/rt" "$tools/uname"
+elsewhere() { # script and words
+    said=$(CC= PATH=$tools PIRASTEH_LIB_DIR= "$root/scripts/$1" "${@:2}" 2>&1)
+    expect "the status of scripts/$1 on another processor" 2 $?
+    expect "what scripts/$1 says on another processor" 1 \
+        "$(grep -c '^[a-z-]*: the kit compiles for x86-64 alone, and this is `aarch64`: ' <<<"$said")"
+}
+elsewhere archive out
+elsewhere programs out
+elsewhere build out
+elsewhere install prefix
+elsewhere test-outside
 expect 'a failed install puts nothing in place' '' "$(ls -d prefix out 2>/dev/null)"
 called() { # script and words: status and what it says
     local said
@@ -155,6 +171,8 @@ expect 'scripts/install --prefix=x' '2 usage: install PREFIX' "$(called install 
 expect 'scripts/build -h' '0 usage: build [OUT-DIR]' "$(called build -h)"
 expect 'scripts/build with two words' '2 usage: build [OUT-DIR]' "$(called build a b)"
 expect 'scripts/archive --help' '0 usage: archive OUT-DIR' "$(called archive --help)"
+expect 'scripts/programs --help' '0 usage: programs OUT-DIR' "$(called programs --help)"
+expect 'scripts/programs without a folder' '2 usage: programs OUT-DIR' "$(called programs)"
 groups='table|small|hard|policy|long|spare|owner|conditions|why|trail|conversions'
 expect 'scripts/bench --fast' "2 usage: bench [$groups].." "$(called bench --fast)"
 expect 'scripts/bench of a group that is none' \

@@ -7,9 +7,10 @@
 # page run one after another in one shell, with `pirasteh` on the path: those of README.md and
 # CONTRIBUTING.md at the root of the repository, those of the other pages in an empty folder. What a
 # command prints, on both outputs, has to be what stands below it; `...` stands for anything. Commands
-# that prove (`rt`, `.ci/run`) are the gate's own and are left out. Paths in backquotes have to be
-# there, and so have the vectors that docs/REFUSALS.md names, with its numbers, and the cases and
-# definitions that docs/RULES.md names; the examples that docs/FORMATS.md takes apart are the files.
+# that prove (`rt`, `.ci/run`, `scripts/programs`) are the gate's own and are left out. Paths in
+# backquotes have to be there, and so have the vectors that docs/REFUSALS.md names, with its numbers,
+# and the cases and definitions that docs/RULES.md names; the examples that docs/FORMATS.md takes apart
+# are the files.
 set -uo pipefail
 : "${PIRASTEH:?is not set: give the absolute path of the command}"
 : "${PIRASTEH_LIB_DIR:?is not set: give the folder that holds libpirasteh.a}"
@@ -49,7 +50,7 @@ as_script() {
     for i in "${!typed[@]}"; do
         printf 'printf "@@@%d\\n"\n(exit ${kept:-0})\n' "$i"
         case ${typed[i]} in
-            'rt '* | .ci/run*) printf ':\n' ;;
+            'rt '* | .ci/run* | scripts/programs*) printf ':\n' ;;
             *) printf '%s\n' "${typed[i]}" ;;
         esac
         printf 'kept=$?\nprintf "\\n"\n'
@@ -68,7 +69,7 @@ try_page() { # page, folder to run in
         </dev/null >"$room/printed" 2>&1
     for i in "${!typed[@]}"; do
         case ${typed[i]} in
-            'rt '* | .ci/run*) left_out=$((left_out + 1)) && continue ;;
+            'rt '* | .ci/run* | scripts/programs*) left_out=$((left_out + 1)) && continue ;;
         esac
         commands=$((commands + 1))
         [ "${shown[i]}" != $'...\n' ] || continue

@@ -1,6 +1,6 @@
 //! Writes the vector files.
 //!
-//!     vectors DIR
+//!     vectors DIR..
 //!
 //! Every case is made by hand, and so is what it expects: no implementation is asked here. The
 //! tests of this package hold the reference to the same cases, and the files to what is written.
@@ -63,15 +63,19 @@ fn text(head: &str, cases: &[Case]) -> String {
 }
 
 fn main() {
-    let Some(dir) = env::args().nth(1) else {
-        eprintln!("vectors DIR");
+    let dirs: Vec<_> = env::args_os().skip(1).collect();
+    if dirs.is_empty() {
+        eprintln!("vectors DIR..");
         exit(2);
-    };
+    }
     for (name, head, cases) in files() {
-        let path = Path::new(&dir).join(name);
-        if let Err(error) = fs::write(&path, text(head, &cases)) {
-            eprintln!("{}: {error}", path.display());
-            exit(1);
+        let text = text(head, &cases);
+        for dir in &dirs {
+            let path = Path::new(dir).join(name);
+            if let Err(error) = fs::write(&path, &text) {
+                eprintln!("{}: {error}", path.display());
+                exit(1);
+            }
         }
         println!("{name}: {} cases", cases.len());
     }
@@ -82,7 +86,8 @@ mod tests {
     use super::*;
     use case::Body;
     use pirasteh_reference as reference;
-    use std::collections::HashSet;
+    use std::collections::{BTreeMap, HashSet};
+    use std::ffi::{OsStr, OsString};
 
     #[test]
     fn the_reference_agrees() {
@@ -181,12 +186,24 @@ mod tests {
         }
     }
 
+    /// The files of a folder of the repository: the name of each, and its bytes.
+    fn in_folder(folder: &str) -> BTreeMap<OsString, Vec<u8>> {
+        let dir = Path::new(env!("CARGO_MANIFEST_DIR")).join("../..").join(folder);
+        let files = fs::read_dir(dir).into_iter().flatten().flatten();
+        files.map(|file| (file.file_name(), fs::read(file.path()).unwrap_or_default())).collect()
+    }
+
     #[test]
     fn the_files_are_these() {
-        let dir = Path::new(env!("CARGO_MANIFEST_DIR")).join("../vectors");
-        for (name, head, cases) in files() {
-            let written = fs::read_to_string(dir.join(name)).unwrap_or_default();
-            assert!(written == text(head, &cases), "{name} is not what `vectors` writes");
+        // The first is for whoever reads them, the second for the proved program.
+        for folder in ["tests/vectors", "crates/vectors/data"] {
+            let mut written = in_folder(folder);
+            for (name, head, cases) in files() {
+                let text = text(head, &cases).into_bytes();
+                let same = written.remove(OsStr::new(name)) == Some(text);
+                assert!(same, "{folder}/{name} is not what `vectors` writes");
+            }
+            assert!(written.is_empty(), "`vectors` writes no {folder}/{:?}", written.keys());
         }
     }
 }
