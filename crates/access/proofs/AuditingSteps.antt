@@ -1,4 +1,4 @@
--- The ways out of `audited` (specs: Evaluating, `reportIn`): no buffer is lent, the trail does not fit, it fits. `raised-shown`, `trail-shown`:
+-- The ways out of `audited` (specs: Evaluating, `report_in`): no buffer is lent, the trail does not fit, it fits. `raised-shown`, `trail-shown`:
 -- those whom the tables show raise what the crowd raises.
 -- Assumes nothing.
 use Prim.Native.Nat.{ℕ}

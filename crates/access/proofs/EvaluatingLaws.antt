@@ -1,5 +1,5 @@
 -- Laws of the evaluation over a listing (specs: Evaluating). `found-listed`: over the listing of a token it finds what the rules say of the
--- token. `privileges-low`: the two privileges that are read stand in the lower word of the enabled privileges.
+-- token. `privileges_low`: the two privileges that are read stand in the lower word of the enabled privileges.
 -- Assumes nothing.
 use Prim.Native.Nat.{ℕ, ◌%◌, ◌^◌, ◌<◌}
 use mathlib.Core.Path.{◌≡◌, refl, sym, ap, ◌∙◌}

@@ -1,6 +1,6 @@
--- What `list_in` hands to the evaluation: a refusal's number (token-refused), or the bytes of the token's listing with the place of the
--- confinement identity (Held, held); what is found over them (found-whole); how long a listing and its crowds are at most (crowd-few,
--- confined-few, held-limits).
+-- What `list_in` hands to the evaluation: a refusal's number (token_refused), or the bytes of the token's listing with the place of the
+-- confinement identity (Held, held); what is found over them (found_whole); how long a listing and its crowds are at most (crowd_few,
+-- confined_few, held_limits).
 -- Assumes nothing.
 use Prim.Native.Nat.{ℕ, ◌≤◌}
 use mathlib.Core.Path.{◌≡◌, refl, sym, ap, ◌∙◌}

@@ -1,6 +1,6 @@
 -- Measuring or writing at a place, one thing after the other. No contract of a caller cites this file.
--- In order: what stands there afterwards (noted-nil, noted-append, noted-length), what was noted (noted-none, noted-both, noted-same,
--- noted-long), the room for it (room-none, room-same, room-first, room-second), what a loop has left (Ahead, ahead-..), the groups of a
+-- In order: what stands there afterwards (noted_nil, noted_append, noted_length), what was noted (noted_none, noted_both, noted_same,
+-- noted_long), the room for it (room_none, room_same, room_first, room_second), what a loop has left (Ahead, ahead-..), the groups of a
 -- number that are still to be noted (Packs, packs-..), what is measured first and then written (measured-..).
 -- Assumes nothing.
 use Prim.Native.Nat.{ℕ, ◌+◌, ◌/◌, ◌%◌, ◌^◌, ◌<◌, ◌≤◌}

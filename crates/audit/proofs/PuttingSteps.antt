@@ -1,5 +1,5 @@
 -- The bytes of a trail, by each step of the code. For the functions of `putting` and `trail`.
--- In order: the bytes of events one after the other (trail-cons, trail-append), a SACL's (list-start, list-none, list-some), a rule's
+-- In order: the bytes of events one after the other (trail_cons, trail_append), a SACL's (list-start, list-none, list-some), a rule's
 -- (rule-passed, rule-applies, rule-empty), those of the rules ahead (rules-start, rules-end, rules-stop, rules-more), the whole trail
 -- (all-events).
 -- Not here: which entry fires next, WalkingLaws; measuring and writing, NotingLaws. Assumes nothing.

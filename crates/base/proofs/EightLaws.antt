@@ -1,6 +1,6 @@
 -- Laws of numbers of eight bytes at a place, and of lists that are compared eight bytes at a time. The index:
 -- by whether the bytes are there: u64-at-in -out; the bound: u64-at-lt; what is read was written so: little-of-u64-at.
--- Equality: eight-miss (a number differs, so the lists do), eight-hit (where it does not, the lists begin alike for eight more),
+-- Equality: eight_miss (a number differs, so the lists do), eight-hit (where it does not, the lists begin alike for eight more),
 -- eight-end (they begin alike, and so do they end).
 -- Not here: numbers of two, four and six bytes, WordsLaws. Assumes nothing.
 use Prim.Native.Nat.{ℕ, ◌+◌, ◌-◌, ◌*◌, ◌^◌, ◌<◌, ◌≤◌}

@@ -1,7 +1,7 @@
 -- A number of more than one byte, group by group: for the loop of `longer`. Over every width up to 64 bits.
--- In order: groups side by side (beside-lt shifted beside-fits within-lt group-lt), groups above groups (above-above); what the groups
+-- In order: groups side by side (beside_lt shifted beside-fits within_lt group_lt), groups above groups (above_above); what the groups
 -- read so far have to do with the number (Among), from the first on (among_first among_next) to each end (among-cut among-wide
--- among-last); a number of five groups at once (five-groups); and what a number of more than one byte is at least (longer-found).
+-- among-last); a number of five groups at once (five-groups); and what a number of more than one byte is at least (longer_found).
 -- Assumes nothing.
 use Prim.Native.Nat.{ℕ, suc, ◌+◌, ◌-◌, ◌*◌, ◌%◌, ◌^◌, ◌<◌, ◌≤◌}
 use mathlib.Core.Path.{◌≡◌, refl, sym, ap, ap₂, ◌∙◌}

@@ -1,4 +1,4 @@
--- Bytes of a part, by their places in the whole: one byte (byte-of-part), a number of two bytes (u16-of-part).
+-- Bytes of a part, by their places in the whole: one byte (byte_of_part), a number of two bytes (u16_of_part).
 -- Not here: a part as a whole, BytesLaws. Assumes nothing.
 use Prim.Native.Nat.{ℕ, ◌+◌, ◌-◌, ◌*◌, ◌<◌, ◌≤◌}
 use mathlib.Core.Path.{◌≡◌, sym, ap, ap₂, ◌∙◌}

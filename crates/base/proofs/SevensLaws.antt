@@ -1,8 +1,8 @@
 -- Laws of numbers in sevens, over every width up to 64 bits. The index:
--- what is read is bounded: number_lt number-bounds.
--- What is written: sevens-last sevens-more packed-short, packed-length (by the count of groups), packed-length-64 -48 -32,
--- packed-pos packed-bytes.
--- Read back: read-back number-of-drop number-back. One form only: one_form number-form number-unique.
+-- what is read is bounded: number_lt number_bounds.
+-- What is written: sevens_last sevens_more packed_short, packed_length (by the count of groups), packed_length_64 -48 -32,
+-- packed_pos packed_bytes.
+-- Read back: read_back number-of-drop number-back. One form only: one_form number-form number-unique.
 -- Not here: what a number is by its first byte, SevensSteps. Assumes nothing.
 use Prim.Native.Nat.{ℕ, zero, suc, ◌+◌, ◌-◌, ◌*◌, ◌/◌, ◌%◌, ◌^◌, ◌<◌, ◌≤◌}
 use mathlib.Core.Path.{◌≡◌, refl, sym, ap, ap₂, ◌∙◌}

@@ -1,8 +1,8 @@
 -- What the number at a place is, by the byte that stands there. Over every width; for `number_at`, for the loop of `longer` (LongerLaws),
 -- and for what is written and read back (SevensLaws).
--- In order: within the width (within-fits within-wide), a group below what follows (long-more carry-more), the number at a place by its
--- first byte (above above-none above-some number-out number-last number-alone number-long number-carry), what a number that was found says
--- (number-found), and the bounds of a reading as the code answers it (num-bounds num-answer).
+-- In order: within the width (within_fits within_wide), a group below what follows (long_more carry_more), the number at a place by its
+-- first byte (above above_none above_some number_out number-last number-alone number-long number-carry), what a number that was found says
+-- (number_found), and the bounds of a reading as the code answers it (num_bounds num_answer).
 -- Assumes nothing.
 use Prim.Native.Nat.{ℕ, suc, ◌+◌, ◌-◌, ◌*◌, ◌^◌, ◌<◌, ◌≤◌}
 use mathlib.Core.Path.{◌≡◌, refl, sym, ap, ap₂, ◌∙◌}

@@ -1,6 +1,6 @@
 -- Laws of numbers of two and four bytes, lowest first, and of six, highest first, at a place. The index:
 -- by whether the bytes are there: u16-at-in -out, u32-at-in -out, u48-be-at-in -out; bounds: u16-at-lt u32-at-lt u48-be-at-lt.
--- What was written is read back: u16-at-back u32-at-back u48-be-at-back (from a drop), u16-at-little u32-at-little big-back (between
+-- What was written is read back: u16-at-back u32-at-back u48-be-at-back (from a drop), u16_at_little u32_at_little big_back (between
 -- two lists).
 -- What is read was written so: little-of-u16-at little-of-u32-at big-of-u48.
 -- Not here: length and bytes of `little` and `big`, ValueLaws. Assumes nothing.

@@ -1,7 +1,7 @@
 -- Writing at a place, one thing after the other. No contract of a caller cites this file.
--- In order: stores one after the other (sets-append), from the front (sets-front, buffer-room), a copy (copy_more, copy_done), the bytes of
--- a number, lowest first (sets-little-none, sets-little-more), what was written (wrote_none, wrote-same, wrote-append) and the room for it
--- (wrote-long, room-first, room_after_lem), the groups of a number that are still to be written (Writes), what a loop has left (Left).
+-- In order: stores one after the other (sets_append), from the front (sets_front, buffer_room), a copy (copy_more, copy_done), the bytes of
+-- a number, lowest first (sets_little_none, sets_little_more), what was written (wrote_none, wrote_same, wrote_append) and the room for it
+-- (wrote_long, room_first, room_after_lem), the groups of a number that are still to be written (Writes), what a loop has left (Left).
 -- Assumes nothing.
 use Prim.Native.Nat.{ℕ, zero, suc, ◌+◌, ◌-◌, ◌*◌, ◌/◌, ◌%◌, ◌^◌, ◌<◌, ◌≤◌}
 use mathlib.Core.Path.{◌≡◌, refl, sym, ap, ap₂, ◌∙◌}

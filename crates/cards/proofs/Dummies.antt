@@ -1,6 +1,6 @@
 -- "Try these dummies against demands 2 and 3 together": what satisfies demand 3, or most of it, and is still no access check.
--- Demand 2 says that the check is `checked`; none of these is. refuses-all, grants-nothing: by card c1. first-entry-only,
--- first-rule-only: by two questions that such a function cannot tell apart.
+-- Demand 2 says that the check is `checked`; none of these is. refuses_all, grants_nothing: by card c1. first_entry_only,
+-- first_rule_only: by two questions that such a function cannot tell apart.
 -- Assumes nothing.
 use Prim.Native.Nat.{ℕ}
 use mathlib.Core.Path.{◌≡◌, refl, sym, ap, ◌∙◌}

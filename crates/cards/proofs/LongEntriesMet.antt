@@ -1,4 +1,4 @@
--- Request 101's `same-reading` is not empty: two questions whose lists differ in spare bytes meet its conditions by computation.
+-- Request 101's `same_reading` is not empty: two questions whose lists differ in spare bytes meet its conditions by computation.
 -- alike-reading. Assumes nothing.
 use mathlib.Core.Path.{refl}
 use mathlib.Core.List.{[], ◌∷◌}

@@ -1,5 +1,5 @@
 -- Request 102 worked, by computation: a foreman's folder with an entry for S-1-3-4, inherit-only (flags 0x0B) or inherited (0x13), in the
--- descriptor's list, in a rule's effective and in its staged one. keeps, loses: what `owner-keeps` and `owner-loses` ask for is met.
+-- descriptor's list, in a rule's effective and in its staged one. keeps, loses: what `owner_keeps` and `owner_loses` ask for is met.
 -- Assumes nothing.
 use Prim.Native.Nat.{ℕ}
 use mathlib.Core.Path.{◌≡◌, refl, ap}

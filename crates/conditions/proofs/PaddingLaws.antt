@@ -1,4 +1,4 @@
--- Laws of padding: zeros from a place (zeros-hit -miss -end), and a part up to the end (part-rest). Assumes nothing.
+-- Laws of padding: zeros from a place (zeros-hit -miss -end), and a part up to the end (part_rest). Assumes nothing.
 use Prim.Native.Nat.{ℕ, ◌+◌, ◌<◌, ◌≤◌}
 use mathlib.Core.Path.{◌≡◌, sym, ap, ◌∙◌}
 use mathlib.Core.List.{List}

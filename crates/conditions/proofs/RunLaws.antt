@@ -1,6 +1,6 @@
 -- Laws of a run over the tokens. `Running` is the loop's invariant: the expression comes to what its bytes from a place on come to, with
 -- some operands that the code's state stands for and some number of steps that is enough. One law for each way on or out, for any way of
--- telling tests and any state K of the code. Past the end no token stands (step-none). Assumes nothing.
+-- telling tests and any state K of the code. Past the end no token stands (step_none). Assumes nothing.
 use Prim.Native.Nat.{ℕ, zero, suc, ◌+◌, ◌<◌, ◌≤◌}
 use mathlib.Core.Path.{◌≡◌, refl, sym, ap, ◌∙◌}
 use mathlib.Core.List.{List, [], ◌∷◌}

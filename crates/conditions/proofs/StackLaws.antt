@@ -1,4 +1,4 @@
--- Laws of the operands in a word of two bits each. In order: bounds (word_lt, word-ge), one operand more (push-broken, push-on); the
+-- Laws of the operands in a word of two bits each. In order: bounds (word_lt, word_ge), one operand more (push-broken, push-on); the
 -- operators, by the lowest digits (negated-.., paired-.., answered-..), and the end (ended-..). Each goes by the cases of the operands; a
 -- digit that does not fit is refused by arithmetic. Assumes nothing.
 use Prim.Native.Nat.{ℕ, suc, ◌+◌, ◌-◌, ◌*◌, ◌/◌, ◌%◌, ◌^◌, ◌<◌, ◌≤◌}

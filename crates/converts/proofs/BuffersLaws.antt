@@ -1,5 +1,5 @@
 -- Laws of buffers. In order: `untouched-hit untouched-miss untouched-end`, a buffer from a place on; `puts-more puts-full puts-done`, a
--- part from a place on; `fills-more crowds-more`, one time more.
+-- part from a place on; `fills_more crowds_more`, one time more.
 -- Assumes nothing.
 use Prim.Native.Nat.{ℕ, ◌+◌, ◌≤◌, ◌<◌}
 use mathlib.Core.Path.{◌≡◌}

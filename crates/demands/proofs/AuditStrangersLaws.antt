@@ -1,6 +1,6 @@
--- Demand 3 over SACLs (request 105). In order: an entry that is struck out fires nothing (fires-struck), so a SACL's events are those of
--- its struck list, entry numbers aside (raised-struck); two SACLs that read the same without strangers (sacl-alike, masks_alike); the
--- rules, for the staging flag and for the events (stages-alike, rules-events-alike); all events (events-alike). Assumes nothing.
+-- Demand 3 over SACLs (request 105). In order: an entry that is struck out fires nothing (fires_struck), so a SACL's events are those of
+-- its struck list, entry numbers aside (raised_struck); two SACLs that read the same without strangers (sacl_alike, masks_alike); the
+-- rules, for the staging flag and for the events (stages-alike, rules_events_alike); all events (events-alike). Assumes nothing.
 use Prim.Native.Nat.{ℕ, ◌+◌}
 use mathlib.Core.Path.{◌≡◌, refl, sym, ap, ◌∙◌}
 use mathlib.Core.List.{List, [], ◌∷◌, ◌++◌}

@@ -1,6 +1,6 @@
 -- Request 105, the report on a question file: number 12 comes first of all, and otherwise it is that of the question it holds. The index:
--- file-refused, file-reported: the two cases. file-report-12: 12 exactly where the file is misshapen or too long, in any buffer.
--- refused-file-report: a refusal has nothing. Assumes nothing.
+-- file_refused, file_reported: the two cases. file_report_12: 12 exactly where the file is misshapen or too long, in any buffer.
+-- refused_file_report: a refusal has nothing. Assumes nothing.
 use Prim.Native.Nat.{ℕ}
 use mathlib.Core.Path.{◌≡◌, refl, ap}
 use mathlib.Core.List.{List}

@@ -1,5 +1,5 @@
 -- Demand 3, second half: a policy that gains one rule grants no bit it did not grant before. The index:
--- found-gained: what is found has no bit more. gained-rule: so of the answer. That the rules leave no more is `ruled-within` of policy.
+-- found_gained: what is found has no bit more. gained_rule: so of the answer. That the rules leave no more is `ruled-within` of policy.
 -- Assumes nothing.
 use Prim.Native.Nat.{ℕ}
 use mathlib.Core.List.{List, ◌∷◌, ◌++◌}

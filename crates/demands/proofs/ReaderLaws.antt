@@ -1,7 +1,7 @@
 -- What a reader of the page expects, over the definitions. The index:
--- identities: same-iff, zero-word-counts. Virtual owner or self: virtual-misses empty-misses owner-misses self-misses.
--- Lists: null-gives empty-gives (a null list and an empty one). 0x01000000: gives-within no-list-gives.
--- Confinement: nothing-given-back confined-loses. Assumes nothing.
+-- identities: same_iff, zero_word_counts. Virtual owner or self: virtual_misses empty_misses owner_misses self_misses.
+-- Lists: null_gives empty_gives (a null list and an empty one). 0x01000000: gives_within no_list_gives.
+-- Confinement: nothing_given_back confined_loses. Assumes nothing.
 use Prim.Native.Nat.{ℕ}
 use mathlib.Core.Path.{◌≡◌, refl}
 use mathlib.Core.List.{List, [], ◌∷◌}

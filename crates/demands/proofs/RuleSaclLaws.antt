@@ -1,4 +1,4 @@
--- A rule's effective SACL: where it stands (SectionAt; SaclAt, rule-sacl-at), and that it is short (sacl-short).
+-- A rule's effective SACL: where it stands (SectionAt; SaclAt, rule_sacl_at), and that it is short (sacl_short).
 -- Assumes nothing.
 use Prim.Native.Nat.{ℕ, ◌+◌, ◌<◌, ◌≤◌}
 use mathlib.Core.Path.{◌≡◌, refl, ap}

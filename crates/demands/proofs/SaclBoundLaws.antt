@@ -1,5 +1,5 @@
--- How long a trail may be. In order: an event's bytes (packed-two, event-bytes-le), those of all (trail-append); the entries of a SACL, one
--- by one (found_spot, audits-none, audits-other, audits-found, audit-long), and its events (sacl-bound); the events of all rules
+-- How long a trail may be. In order: an event's bytes (packed_two, event_bytes_le), those of all (trail_append); the entries of a SACL, one
+-- by one (found_spot, audits-none, audits-other, audits-found, audit_long), and its events (sacl-bound); the events of all rules
 -- (rules-bound).
 -- An event takes at most 9 bytes, and the entry that fires at least 16: so 16 bytes of a SACL pay for 9 bytes of the trail. An entry of any
 -- type takes at least 4, so an entry's number takes at most two bytes, as a rule's number does.

@@ -1,7 +1,7 @@
 -- Request 103. In order: every entry of an accepted list is conditioned (conditioned); an entry whose condition is false says nothing
--- (silent), and with a true one it does what it would without (spoken); S-1-3-4 is named with any condition (owner-named); a stranger's
--- entry is struck out with any (stranger-struck); a rule that does not apply changes no answer (ruled-apart, found-apart, stages-apart,
--- ruled-on-apart, rule-apart). Assumes nothing.
+-- (silent), and with a true one it does what it would without (spoken); S-1-3-4 is named with any condition (owner_named); a stranger's
+-- entry is struck out with any (stranger_struck); a rule that does not apply changes no answer (ruled_apart, found_apart, stages_apart,
+-- ruled_on_apart, rule_apart). Assumes nothing.
 use Prim.Native.Nat.{ℕ, zero, suc}
 use mathlib.Core.Path.{◌≡◌, refl, sym, ap, subst, ◌∙◌}
 use mathlib.Core.List.{List, [], ◌∷◌, ◌++◌}

@@ -1,6 +1,6 @@
 -- Demand 3, first half: entries of strangers change no answer, and no event but in its entry number. The index, from a list up to the
--- answer: a list without its strangers: taken-stranger run-struck names-struck; two lists that read the same without: passed-alike
--- normal-alike. The whole: ruled-alike found_alike lists-alike rules-alike answer-strangers events-strangers. Not here: that a stranger
+-- answer: a list without its strangers: taken_stranger run_struck names_struck; two lists that read the same without: passed_alike
+-- normal_alike. The whole: ruled_alike found_alike lists_alike rules_alike answer_strangers events_strangers. Not here: that a stranger
 -- matches nobody, UnknownLaws; SACLs, AuditStrangersLaws. Assumes nothing.
 use Prim.Native.Nat.{ℕ}
 use mathlib.Core.Path.{◌≡◌, refl, sym, ap, ◌∙◌}

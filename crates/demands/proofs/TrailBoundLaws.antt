@@ -1,7 +1,7 @@
--- How long the trail of a question may be: never more than 9/16 of the bytes of descriptor and policy together (trail-bound), and so at
--- most 184319 bytes (trail-most).
+-- How long the trail of a question may be: never more than 9/16 of the bytes of descriptor and policy together (trail_bound), and so at
+-- most 184319 bytes (trail_most).
 -- In order: what an accepted question's descriptor and policy are (PartsFit, accepted-parts), how long a SACL, a descriptor and a policy
--- are (sacl-inside, descriptor-short, Sized, policy-sized), the trail.
+-- are (sacl_inside, descriptor_short, Sized, policy_sized), the trail.
 -- Not here: question files, FileBoundLaws. Assumes nothing.
 use Prim.Native.Nat.{ℕ, ◌+◌, ◌*◌, ◌≤◌}
 use mathlib.Core.Path.{◌≡◌, refl}

@@ -1,8 +1,8 @@
 -- Request 105, reports: the answer and its trail, in a buffer of n bytes. In order: the trail of a refused question, and of an accepted one
--- (refused-trail, trail_is, flag_is); a report that fits, and one that does not (room-enough, beyond); the number given is the lowest
--- line that holds (report-status); a refusal has nothing (refused-report); an accepted one is whole (accepted-report); 11 exactly where
--- the trail is too long (eleven-only); lists that read the same (report-read); what stands in the lent buffer (trail-written,
--- trail-unwritten). Not here: question files, FileTrailLaws. Assumes nothing.
+-- (refused_trail, trail_is, flag_is); a report that fits, and one that does not (room_enough, beyond); the number given is the lowest
+-- line that holds (report_status); a refusal has nothing (refused_report); an accepted one is whole (accepted_report); 11 exactly where
+-- the trail is too long (eleven_only); lists that read the same (report_read); what stands in the lent buffer (trail_written,
+-- trail_unwritten). Not here: question files, FileTrailLaws. Assumes nothing.
 use Prim.Native.Nat.{ℕ, ◌+◌, ◌<◌, ◌≤◌}
 use mathlib.Core.Path.{◌≡◌, refl, sym, ap, ◌∙◌}
 use mathlib.Core.List.{List, [], ◌∷◌, ◌++◌}

@@ -1,7 +1,7 @@
 -- Laws of lists and their entries, for callers: what an accepted list's entries are.
--- In order: the bytes of a list, by its place (acl-of-part); entries one by one (ace-found, entries-stop, entries-more, entries-short); what
--- holds of every entry (All, Sound, entries-sound, Narrow, entries-narrow); a list of plain entries (Plainly, plain-of-scan, Content,
--- judged_of, content-of, OneMore, plain_more, plain-cons), all of which are read (plain-reads-all). The tests one by one are in AclSteps.
+-- In order: the bytes of a list, by its place (acl_of_part); entries one by one (ace_found, entries-stop, entries-more, entries_short); what
+-- holds of every entry (All, Sound, entries_sound, Narrow, entries_narrow); a list of plain entries (Plainly, plain_of_scan, Content,
+-- judged_of, content_of_lem, OneMore, plain_more, plain_cons), all of which are read (plain_reads_all). The tests one by one are in AclSteps.
 -- Assumes nothing.
 use Prim.Native.Nat.{ℕ, zero, suc, ◌+◌, ◌-◌, ◌^◌, ◌<◌, ◌≤◌}
 use mathlib.Core.Path.{◌≡◌, refl, sym, ap, ◌∙◌}

@@ -1,6 +1,6 @@
 -- Where a list and an entry's heading end, by each test in its order. For `acl_end` and `head_end`.
--- In order: where an ACL ends (acl-end-..) and what stands where one does (AclAt, acl-at, acl-end-bounds); the same of an entry's heading
--- (head-end-.., HeadAt, head_at, head-end-bounds).
+-- In order: where an ACL ends (acl-end-..) and what stands where one does (AclAt, acl_at, acl_end_bounds); the same of an entry's heading
+-- (head-end-.., HeadAt, head_at, head_end_bounds).
 -- Not here: entries, EntrySteps; what an accepted list is, AclLaws. Assumes nothing.
 use Prim.Native.Nat.{ℕ, ◌+◌, ◌%◌, ◌<◌, ◌≤◌}
 use mathlib.Core.Path.{◌≡◌, refl}

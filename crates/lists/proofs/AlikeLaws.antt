@@ -1,8 +1,8 @@
--- An entry is what its bytes say up to where it is read (`readTo`: the end of its SID, or of its condition), and nothing behind them is
+-- An entry is what its bytes say up to where it is read (`read_to`: the end of its SID, or of its condition), and nothing behind them is
 -- read: two lists that agree there have the same entry there. For a reader that holds the front of a list, and for spare bytes (request
 -- 101).
--- In order: numbers (u16-alike, u32-alike), an identity (sid-end-alike), a heading (head-end-alike), bytes (part-alike), an entry
--- (sid-alike, condition-alike, ace-alike, entry-alike, content-alike), all entries of a list (entries-alike, spare-unread). Assumes
+-- In order: numbers (u16_alike, u32_alike), an identity (sid_end_alike), a heading (head_end_alike), bytes (part_alike), an entry
+-- (sid_alike, condition_alike, ace-alike, entry-alike, content-alike), all entries of a list (entries_alike, spare_unread). Assumes
 -- nothing.
 use Prim.Native.Nat.{ℕ, zero, suc, ◌+◌, ◌-◌, ◌*◌, ◌%◌, ◌≤◌}
 use mathlib.Core.Path.{◌≡◌, refl, sym, ap, ap₂, ◌∙◌}

@@ -1,6 +1,6 @@
 -- Laws of entries found by their lengths (specs: ByLength). In order: the entry by each test (by-length-short, -cut, -past, -made); a well
--- shaped entry with a SID is found as it is (by-length-is); so are all entries of a list that was found plain (entries-by-length), of an
--- empty one (entries-by-none), and so of an accepted descriptor's (dacl-by-length).
+-- shaped entry with a SID is found as it is (by_length_is); so are all entries of a list that was found plain (entries_by_length_lem), of an
+-- empty one (entries_by_none), and so of an accepted descriptor's (dacl_by_length).
 -- Assumes nothing.
 use Prim.Native.Nat.{ℕ, zero, suc, ◌+◌, ◌*◌, ◌<◌, ◌≤◌}
 use mathlib.Core.Path.{◌≡◌, refl, sym, ap, ◌∙◌}

@@ -1,7 +1,7 @@
 -- Laws of a whole descriptor, for callers: what its parts are.
--- In order: every part lies inside (parts-bounds); what an accepted descriptor is (Accepted, whole-heading, whole-accepted, whole_is) and
--- its parts (whole-owner, whole-group, whole-dacl, whole-sacl, whole-null); that a refused read hands out nothing (refused-is, refused-nothing,
--- null-dacl).
+-- In order: every part lies inside (parts_bounds); what an accepted descriptor is (Accepted, whole-heading, whole-accepted, whole_is) and
+-- its parts (whole-owner, whole-group, whole-dacl, whole-sacl, whole-null); that a refused read hands out nothing (refused-is, refused_nothing,
+-- null_dacl_lem).
 -- Not here: what an offset names, PieceLaws; the tests one by one, DescriptorSteps. Assumes nothing.
 use Prim.Native.Nat.{ℕ}
 use mathlib.Core.Path.{◌≡◌, refl, sym, ap, ◌∙◌}

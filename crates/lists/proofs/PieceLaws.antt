@@ -1,6 +1,6 @@
 -- What an offset of a descriptor names: an identity or a list, nothing, or something misshapen.
--- In order: the cases (SidPiece, sid-piece-cases, AclPiece, acl-piece-cases); a piece lies inside (sid-piece-within, acl-piece-within); the
--- list that stands there (Listed, piece-listed); nothing (absent-nothing).
+-- In order: the cases (SidPiece, sid_piece_cases, AclPiece, acl_piece_cases); a piece lies inside (sid_piece_within, acl_piece_within); the
+-- list that stands there (Listed, piece_listed); nothing (absent_nothing).
 -- Not here: the tests one by one, DescriptorSteps. Assumes nothing.
 use Prim.Native.Nat.{ℕ, ◌≤◌}
 use mathlib.Core.Path.{◌≡◌, refl, sym, ap, ◌∙◌}

@@ -1,5 +1,5 @@
--- Laws of simple lists (specs: Simple). In order: the entries one by one (simple-start, simple-end, simple-none, simple-other,
--- simple-unfit, simple-more); a simple list is plain (simple-plain). Assumes nothing.
+-- Laws of simple lists (specs: Simple). In order: the entries one by one (simple_start, simple-end, simple-none, simple-other,
+-- simple-unfit, simple-more); a simple list is plain (simple_plain). Assumes nothing.
 use Prim.Native.Nat.{ℕ, zero, suc, ◌+◌, ◌-◌, ◌<◌, ◌≤◌}
 use mathlib.Core.Path.{◌≡◌, refl, sym, ◌∙◌}
 use mathlib.Core.List.{List}

@@ -1,7 +1,7 @@
--- Entries with spare bytes or without (request 101): which entries with a SID are well shaped (long-enough, and in a SACL
--- audit-enough), the heading of one
--- (entry-head), where the next begins and where it lies (ace-next, ace-bounds, read_fits, ace-past), and what the entries of an accepted
--- list say (entries-said).
+-- Entries with spare bytes or without (request 101): which entries with a SID are well shaped (long_enough, and in a SACL
+-- audit_enough), the heading of one
+-- (entry_head), where the next begins and where it lies (ace_next, ace_bounds, read_fits, ace_past), and what the entries of an accepted
+-- list say (entries_said).
 -- Not here: that nothing else is read, AlikeLaws. Assumes nothing.
 use Prim.Native.Nat.{ℕ, zero, suc, ◌+◌, ◌<◌, ◌≤◌}
 use mathlib.Core.Path.{◌≡◌, refl, ap, ap₂, ◌∙◌}

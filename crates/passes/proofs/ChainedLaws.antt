@@ -1,5 +1,5 @@
 -- What the chains of a crowd come to: a SID is found in the chain of its key exactly where it is among the crowd. In order: all seats of a
--- crowd, one after the other (chained-says); the crowd at a place of a listing (chains-say). One seat more is in LinkLaws.
+-- crowd, one after the other (chained_says); the crowd at a place of a listing (chains-say). One seat more is in LinkLaws.
 -- Assumes nothing.
 use Prim.Native.Nat.{ℕ, zero, suc, ◌+◌, ◌-◌, ◌<◌, ◌≤◌}
 use mathlib.Core.Bool.{Bool, true, false, cond, ◌&&◌, ◌||◌, or-false}

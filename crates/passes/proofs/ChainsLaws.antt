@@ -1,6 +1,6 @@
 -- Laws of the chains that a search goes through (specs: Chains). In order: a chain by the number that it starts from (chain-out,
 -- chain-skip, chain_head); one turn of a search (chain-none, chain-hit, chain-last, chain-near, chain_more); what is not in the chain is
--- not read (chain-frame); whom the tables show is found under its key (among-shown). Assumes nothing.
+-- not read (chain-frame); whom the tables show is found under its key (among_shown). Assumes nothing.
 use Prim.Native.Nat.{ℕ, zero, suc, ◌+◌, ◌-◌, ◌<◌, ◌≤◌}
 use mathlib.Core.Bool.{Bool, true, false, cond, ◌&&◌, ◌||◌, or-false}
 use mathlib.Core.List.{List, [], ◌∷◌, ◌++◌}

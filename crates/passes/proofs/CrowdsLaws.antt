@@ -1,5 +1,5 @@
 -- Two crowds among whom the same SIDs match answer alike: owner and self identity (hits-alike), conditions (admits-alike), a walk over any
--- entries (walked-alike), and normal evaluation (normal-alike). So the order of a crowd does not matter, nor whom a listing has twice.
+-- entries (walked-alike), and normal evaluation (normal_alike). So the order of a crowd does not matter, nor whom a listing has twice.
 -- Assumes nothing.
 use Prim.Native.Nat.{ℕ}
 use mathlib.Core.Bool.{Bool, true, false, cond, ◌&&◌}

@@ -1,5 +1,5 @@
--- What a walk comes to is what the definitions of the page say: from a walk over a list's entries, `normalBy` is `normalOf`, and `listedBy`
--- is `listGives`. For a null DACL the walk is one over no entries.
+-- What a walk comes to is what the definitions of the page say: from a walk over a list's entries, `normal_by` is `normal_of`, and `listed_by`
+-- is `list_gives`. For a null DACL the walk is one over no entries.
 -- Assumes nothing.
 use Prim.Native.Nat.{ℕ}
 use mathlib.Core.List.{List, []}

@@ -1,5 +1,5 @@
 -- What an accepted policy is. In order: a rule that is well shaped (shaped-rule), and found by its sections alone (step_same); plain lists
--- and a plain applies_to (acl-plain, plain-rule); the rules of an accepted policy: each is there and has plain lists (sound-rules), there
+-- and a plain applies_to (acl_plain, plain_rule); the rules of an accepted policy: each is there and has plain lists (sound-rules), there
 -- are as many as the heading says (sound-count), and they are found by the lengths of their sections alone (sound-by-lengths). Assumes
 -- nothing.
 use Prim.Native.Nat.{ℕ, zero, suc}

@@ -1,7 +1,7 @@
 -- What the rules of a policy come to. In order: rules after rules (ruled-append); bit by bit, what is left (left-bit, left-bit-all) and
--- where staging differs (differ-bit); whether a rule that applies has a SACL (audits-some, staged-audits-some); one rule more never adds a
+-- where staging differs (differ_bit); whether a rule that applies has a SACL (audits-some, staged-audits-some); one rule more never adds a
 -- bit (ruled-within); masks of 32 bits (ruled-left-lt, result-lt, ruled-differ-lt); crowds among whom the same SIDs match are left the same
--- (ruled-alike). Assumes nothing.
+-- (ruled_alike). Assumes nothing.
 use Prim.Native.Nat.{ℕ, ◌^◌, ◌<◌, ◌≤◌}
 use mathlib.Core.Path.{◌≡◌, refl, sym, ap, ◌∙◌}
 use mathlib.Core.List.{List, [], ◌∷◌, ◌++◌}

@@ -1,5 +1,5 @@
 -- What the rules of a policy leave, by each step of the code. For the functions of `rules`.
--- In order: a rule by its sections (step-read), a section with bytes in it (section-there), one result (result-is), one rule more
+-- In order: a rule by its sections (step_read), a section with bytes in it (section_there), one result (result-is), one rule more
 -- (narrowed-.., judged-..), the walk over all rules (Left, left-..).
 -- Not here: what all rules come to, RulesLaws. Assumes nothing.
 use Prim.Native.Nat.{ℕ, suc, ◌+◌, ◌-◌, ◌<◌, ◌≤◌}

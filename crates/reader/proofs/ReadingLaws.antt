@@ -1,7 +1,7 @@
 -- Readings from a place to the end, and readers.
--- In order: a list up to a place has the entries that the list has there (front-stop, front-step, front-entry); a reading from a place
--- (read-end, read_more, read_left); what is held of a list (held-inside, held-short), and m steps of a reader that was opened on it give its
--- first m entries (read-any), a long enough reading all of them (read-all, read_plain); a reader is its list and its place (reader-same).
+-- In order: a list up to a place has the entries that the list has there (front_stop, front_step, front_entry); a reading from a place
+-- (read_end, read_more, read_left); what is held of a list (held_inside, held_short), and m steps of a reader that was opened on it give its
+-- first m entries (read_any), a long enough reading all of them (read_all_lem, read_plain); a reader is its list and its place (reader_same).
 -- Assumes nothing.
 use Prim.Native.Nat.{ℕ, zero, suc, ◌+◌, ◌-◌, ◌<◌, ◌≤◌}
 use mathlib.Core.Path.{◌≡◌, refl, sym, ap, ap₂, ◌∙◌}

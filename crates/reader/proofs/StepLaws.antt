@@ -1,7 +1,7 @@
 -- What stands at a place of a held list, and where a list ends. For `step_at`, `end` and `held`.
--- In order: a step at a place (step-none, step-some), what holds of one that shows an entry (Stands, step-stands), and how far it goes
--- (step-moves, step_fits, step_stays, step-inside); the place after the last entry (end_none, end-stop, end_more, end-left, EndLies,
--- end-lies), and what is held (held-is).
+-- In order: a step at a place (step_none, step-some), what holds of one that shows an entry (Stands, step-stands), and how far it goes
+-- (step-moves, step_fits, step_stays, step-inside); the place after the last entry (end_none, end-stop, end_more, end_left, EndLies,
+-- end_lies), and what is held (held_is).
 -- Not here: readings from a place to the end, ReadingLaws. Assumes nothing.
 use Prim.Native.Nat.{ℕ, zero, suc, ◌+◌, ◌-◌, ◌<◌, ◌≤◌}
 use mathlib.Core.Path.{◌≡◌, refl, ap, ◌∙◌}

@@ -1,5 +1,5 @@
--- How long a listing and a record are at most, by shape (listing-short, record-short) and where they are accepted (accepted-listing-short,
--- accepted-record-short, as-listing-short, as-record-short). That each bound is reached is in LargestLaws.
+-- How long a listing and a record are at most, by shape (listing_short, record_short) and where they are accepted (accepted_listing_short,
+-- accepted_record_short, as_listing_short, as_record_short). That each bound is reached is in LargestLaws.
 -- Assumes nothing.
 use Prim.Native.Nat.{ℕ, ◌*◌, ◌≤◌}
 use mathlib.Core.Path.{◌≡◌, refl}

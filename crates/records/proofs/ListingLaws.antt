@@ -1,4 +1,4 @@
--- The flat listing as a format: its numbers and its identities are read back and have one form (flat-format).
+-- The flat listing as a format: its numbers and its identities are read back and have one form (flat_format).
 -- Assumes nothing.
 use Prim.Native.Nat.{ℕ, ◌+◌, ◌*◌, ◌/◌, ◌%◌, ◌^◌, ◌<◌, ◌≤◌}
 use mathlib.Core.Path.{◌≡◌, refl, sym, ap, ap₂, ◌∙◌}

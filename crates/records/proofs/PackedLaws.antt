@@ -1,5 +1,5 @@
 -- What is packed of a listing, by place, is the record of its token (packed-listing), and the listing can be packed (packable-listing).
--- In order: members of one kind, a crowd, the parts of a listing, the whole and its length (packed-short, packed-twice). Assumes nothing.
+-- In order: members of one kind, a crowd, the parts of a listing, the whole and its length (packed_short, packed_twice). Assumes nothing.
 use Prim.Native.Nat.{ℕ, ◌+◌, ◌*◌, ◌^◌, ◌<◌, ◌≤◌}
 use mathlib.Core.Path.{◌≡◌, refl, sym, ap, ap₂, ◌∙◌}
 use mathlib.Core.List.{List, [], ◌∷◌, ◌++◌, append_assoc}

@@ -1,5 +1,5 @@
--- The packed record as a format: its numbers and its identities are read back and have one form (packed-format).
--- In order: a number (number-kept), the words of an identity (words-..), an identity (packed-identity-kept).
+-- The packed record as a format: its numbers and its identities are read back and have one form (packed_format).
+-- In order: a number (number_kept), the words of an identity (words-..), an identity (packed_identity_kept).
 -- Assumes nothing.
 use Prim.Native.Nat.{ℕ, zero, suc, ◌+◌, ◌*◌, ◌^◌, ◌<◌, ◌≤◌}
 use mathlib.Core.Path.{◌≡◌, refl, sym, ap, ap₂, ◌∙◌}

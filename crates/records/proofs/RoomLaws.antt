@@ -1,7 +1,7 @@
 -- Laws of the room for what is unpacked.
--- In order: what a step leaves of the room (room-left, room_for, room-same, room_whole, fits-fourfold, quarter-fits), what
--- a step wrote (refused-within, Counted, counted-room, within-after), a number moves on (number_past,
--- limited-past), a buffer that is cleared (fill_more, fill_none, filled). Assumes nothing.
+-- In order: what a step leaves of the room (room-left, room_for, room_same, room_whole, fits_fourfold, quarter_fits), what
+-- a step wrote (refused_within, Counted, counted_room, within_after), a number moves on (number_past,
+-- limited_past), a buffer that is cleared (fill_more, fill_none, filled). Assumes nothing.
 use Prim.Native.Nat.{ℕ, zero, suc, ◌+◌, ◌-◌, ◌*◌, ◌/◌, ◌<◌, ◌≤◌}
 use mathlib.Core.Path.{◌≡◌, refl, sym, ap, ◌∙◌}
 use mathlib.Core.List.{List, ◌++◌, append-nil}

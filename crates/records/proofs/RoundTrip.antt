@@ -1,6 +1,6 @@
 -- What is written of a token is read back, and what is read is written so.
--- In order: the listing (listing-back, listing-form), the record (record-back, record-form), what an accepted conversion is (accepted), the
--- two converters one after the other (there_and_back, back-and-there, as-listing-inj, as-record-inj). Their lengths are in LimitLaws.
+-- In order: the listing (listing_back, listing_form), the record (record_back, record_form), what an accepted conversion is (accepted), the
+-- two converters one after the other (there_and_back, back_and_there, as_listing_inj, as_record_inj). Their lengths are in LimitLaws.
 -- Assumes nothing.
 use Prim.Native.Nat.{ℕ, ◌+◌}
 use mathlib.Core.Path.{◌≡◌, refl, sym, ap, ◌∙◌}

@@ -1,5 +1,5 @@
--- A record is at most twice as long as the listing of the same token (record-twice): so is each part of it.
--- In order: a sequence (each_twice), the fields (fields-twice), the two formats. Assumes nothing.
+-- A record is at most twice as long as the listing of the same token (record_twice): so is each part of it.
+-- In order: a sequence (each_twice), the fields (fields_twice), the two formats. Assumes nothing.
 use Prim.Native.Nat.{ℕ, suc, ◌*◌, ◌^◌, ◌<◌, ◌≤◌}
 use mathlib.Core.List.{List, [], ◌∷◌}
 use mathlib.Core.Bool.{Bool, true, false}

@@ -1,7 +1,7 @@
 -- Laws of one identity at a place. For `sid_end`, `is_sid` and their callers.
 -- In order: where the SID at a place ends, by each test (sid-end-short, -other, -many, -cut, -whole); what stands where one does (SidAt,
--- sid-at, sid-end-bounds); bytes that are exactly one SID (is-sid-.., Sid, sid-shape, sid-of-shape); a SID by its place and by its bytes
--- (sid-of-part, sid-end-of-part, sid-end-local). Worked examples are in Cases. Assumes nothing.
+-- sid_at, sid_end_bounds); bytes that are exactly one SID (is-sid-.., Sid, sid_shape, sid_of_shape); a SID by its place and by its bytes
+-- (sid_of_part, sid_end_of_part, sid_end_local). Worked examples are in Cases. Assumes nothing.
 use Prim.Native.Nat.{ℕ, ◌+◌, ◌-◌, ◌*◌, ◌<◌, ◌≤◌}
 use mathlib.Core.Path.{◌≡◌, refl, sym, ap, ◌∙◌}
 use mathlib.Core.List.{List, ◌++◌}

@@ -1,5 +1,5 @@
 -- Laws of SIDs of one word (specs: Sid), compared as three numbers of four bytes.
--- In order: the virtual identities are such (owner-rights-single, principal-self-single); its length and the number at each place
+-- In order: the virtual identities are such (owner_rights_single, principal_self_single); its length and the number at each place
 -- (length-single, single-first, single-authority, single-word); what has another length or another number is not it (single-long,
 -- single-miss), and where all but the first are its own the first decides (single-test). Assumes nothing.
 use Prim.Native.Nat.{ℕ, ◌^◌, ◌<◌}

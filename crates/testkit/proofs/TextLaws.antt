@@ -1,5 +1,5 @@
 -- Laws of words, lines, digits, and bytes in pairs of digits.
--- In order: `after-outside after_same after-other`, words at a place; `next_past next-in line-end line-more line-none`, a line from a place on; `digit_low
+-- In order: `after-outside after_same after-other`, words at a place; `next_past next_in_lem line_end line_more line_none`, a line from a place on; `digit_low
 -- digit-figure digit-between digit-letter digit-high`, a digit by its range; `byte_high byte_low byte-both`, two
 -- digits; `fill_start`, before the first turn of `filled`; `fill-full fill_end
 -- fill_done fill-short fill-bad fill_more`, one for each way through a turn.

@@ -1,4 +1,4 @@
--- `authority` meets its contract: six bytes inside a SID are the number that `u48BeAt` says. Assumes nothing.
+-- `authority` meets its contract: six bytes inside a SID are the number that `u48_be_at` says. Assumes nothing.
 use native.Mathlib.Omega.{arith}
 use Rattle.base.proofs.WordsLaws.{u48-be-at-in}
 use Rattle.tokens.proofs.parts.authority.Goals as goal
