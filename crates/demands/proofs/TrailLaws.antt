@@ -207,9 +207,9 @@ module _ (x : Report) (before after : List ℕ) where
       let e : x.trail ≡ [] = (f (λ z. h (ap (λ (a : Answer). a.status) w.answer ∙ z))).trail in
       record { count = w.length ∙ ap length e; buffer = w.buffer ∙ ap (sets before 0) e }
 
-  pub handed-untouched : (n r g a s : ℕ) → Followed x before after n r g a s → ((x.answer.status ≡ 0 → ⊥) → Nothing x) → (r ≡ 0 → ⊥) →
+  pub handed_untouched : (n r g a s : ℕ) → Followed x before after n r g a s → ((x.answer.status ≡ 0 → ⊥) → Nothing x) → (r ≡ 0 → ⊥) →
       Untouched before after n
-  handed-untouched n r g a s w f h =
+  handed_untouched n r g a s w f h =
       let e : x.trail ≡ [] = (f (λ z. h (w.told.status ∙ z))).trail in
       record { count = w.written ∙ ap length e; buffer = w.buffer ∙ ap (sets before 0) e }
 
@@ -221,4 +221,4 @@ trail_unwritten q before after t w h = untouched (in_buffer (length before) (rep
 pub export_unwritten : (q : Question) (before after : List ℕ) (n r g a s : ℕ) →
     Followed (in_buffer (length before) (report_of q)) before after n r g a s → (r ≡ 0 → ⊥) → Untouched before after n
 export_unwritten q before after n r g a s w h =
-    handed-untouched (in_buffer (length before) (report_of q)) before after n r g a s w (refused_report (length before) q) h
+    handed_untouched (in_buffer (length before) (report_of q)) before after n r g a s w (refused_report (length before) q) h

@@ -200,7 +200,7 @@ doors_met = (number32.Met.met, number48.Met.met, number64.Met.met)
 -- A byte below 128 is a number by itself, in every width of seven bits or more, and the next number begins behind it
 pub one_byte : (bits : ℕ) (s : List ℕ) (at : ℕ) → at < length s → byte_at s at < 128 → 7 ≤ bits →
     number bits s at ≡ some (byte_at s at) (at + 1)
-one_byte = steps.number-alone
+one_byte = steps.number_alone
 
 -- Any other byte is no number by itself: a number that begins with one takes more bytes, and is 128 or more, so that no longer form of a
 -- one_byte number is read
@@ -274,7 +274,7 @@ pub chains_show : (heads seats : List ℕ) → ((k : ℕ) → get_or heads k 0 �
     (attrs : Bool) (s : List ℕ) (at : ℕ) → length s ≤ 32768 → length (crowd_at attrs s at) < length seats →
     (t : Tables) → t ≡ chains_of attrs s at (tables heads seats) → (allow : Bool) (w : List ℕ) →
     among allow (shown t.heads t.seats s) w ≡ among allow (crowd_at attrs s at) w
-chains_show = links.chains-say
+chains_show = links.chains_say
 
 -- The entries of a list that scans plain are found by their sizes and the counts of their SIDs alone
 pub by_length : (l : List ℕ) → scan_of true l ≡ Plain → entries_by_length l ≡ entries_of l
