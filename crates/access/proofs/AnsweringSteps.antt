@@ -31,8 +31,8 @@ use Rattle.access.specs.Evaluating.{crowd_in, report_in}
 use Rattle.answers.specs.declared.answer.Answer.{Answer}
 use Rattle.access.specs.declared.answer.Findings.{Findings}
 use Rattle.access.specs.declared.answer.Traced.{Traced}
-use Rattle.access.proofs.FindingsLaws.{findings_for, Reports, past-taken}
-use Rattle.access.proofs.ReportLaws.{lent_none, unasked, report-listed}
+use Rattle.access.proofs.FindingsLaws.{findings_for, Reports, past_taken}
+use Rattle.access.proofs.ReportLaws.{lent_none, unasked, report_listed}
 use Rattle.access.proofs.TokenSteps.{number_sound, crowd_few}
 
 -- from one place up to another stands something
@@ -45,17 +45,17 @@ places_stand a e n h = go (ltb a e) refl
 
 module _ (q : Question) (f : Findings) (e : f ≡ findings_for q) (z : f.status ≡ 0) where
   pub reports : Reports q f
-  reports = past-taken q f e z
+  reports = past_taken q f e z
 
   abbrev pub t : Token
   t = reports.taken.token
 
   -- ---- what is handed over
 
-  pub listing-held : (l room : List ℕ) → (f.status ≡ 0 → take f.length room ≡ (as_listing q.token).bytes) → l ≡ take f.length room →
+  pub listing_held : (l room : List ℕ) → (f.status ≡ 0 → take f.length room ≡ (as_listing q.token).bytes) → l ≡ take f.length room →
       l ≡ listing_of t
   unfolding as_listing
-  listing-held l room k h = h ∙ k z ∙ rw (reports.taken.read, reports.taken.kept) refl
+  listing_held l room k h = h ∙ k z ∙ rw (reports.taken.read, reports.taken.kept) refl
 
   shaped : T (are_bytes q.token) → Shaped t
   shaped b = (record_form q.token t reports.taken.end b reports.taken.read).1
@@ -67,14 +67,14 @@ module _ (q : Question) (f : Findings) (e : f ≡ findings_for q) (z : f.status 
       let m = crowd_few t o in
       rw h (omega (arith, n), omega (arith, m))
 
-  pub owner-held : (w : List ℕ) → w ≡ part_in q.descriptor f.owner.from f.owner.to → w ≡ owner_of q.descriptor
-  owner-held w h =
+  pub owner_held : (w : List ℕ) → w ≡ part_in q.descriptor f.owner.from f.owner.to → w ≡ owner_of q.descriptor
+  owner_held w h =
       part_handed q.descriptor w (parts_of q.descriptor) (λ (x : Parts). x.owner)
       (h ∙ ap (λ (g : Findings). part_in q.descriptor g.owner.from g.owner.to) reports.taken.is)
       (parts_bounds q.descriptor).owner refl
 
-  pub sacl-held : (w : List ℕ) → w ≡ part_in q.descriptor f.sacl.from f.sacl.to → w ≡ sacl_of q.descriptor
-  sacl-held w h =
+  pub sacl_held : (w : List ℕ) → w ≡ part_in q.descriptor f.sacl.from f.sacl.to → w ≡ sacl_of q.descriptor
+  sacl_held w h =
       part_handed q.descriptor w (parts_of q.descriptor) (λ (x : Parts). x.sacl)
       (h ∙ ap (λ (g : Findings). part_in q.descriptor g.sacl.from g.sacl.to) reports.taken.is)
       (parts_bounds q.descriptor).sacl refl
@@ -94,9 +94,9 @@ module _ (q : Question) (f : Findings) (e : f ≡ findings_for q) (z : f.status 
 
   module _ (lent : Bool) (n : ℕ) (before after : List ℕ) (told : Traced) (a : Answer)
       (read : a ≡ answer_of q.kind q.mask f.found) where
-    pub lent-unasked : (f.found.has_staged_sacl || (lent && (ltb f.sacl.from f.sacl.to || f.found.has_sacl))) ≡ false →
+    pub lent_unasked : (f.found.has_staged_sacl || (lent && (ltb f.sacl.from f.sacl.to || f.found.has_sacl))) ≡ false →
         told.answer ≡ a → told.length ≡ 0 → after ≡ before → Lent (in_buffer n (lending lent (report_past q))) before after told
-    lent-unasked none is zero same =
+    lent_unasked none is zero same =
         let o = unasked q t lent
         (sym (ap
         (λ (g : Findings). g.found.has_staged_sacl || (lent && (ltb 0 (length (sacl_of q.descriptor)) || g.found.has_sacl)))
@@ -104,11 +104,11 @@ module _ (q : Question) (f : Findings) (e : f ≡ findings_for q) (z : f.status 
         ∙ ap (λ (b : Bool). f.found.has_staged_sacl || (lent && (b || f.found.has_sacl))) (sym sacl_stands) ∙ none) in
         rw (reports.told, o) (lent_none n (by_lists q t) before after told (is ∙ answer_held a read) zero same)
 
-    pub lent-audited : T (are_bytes q.token) → (l owner sacl : List ℕ) → l ≡ listing_of t → owner ≡ owner_of q.descriptor →
+    pub lent_audited : T (are_bytes q.token) → (l owner sacl : List ℕ) → l ≡ listing_of t → owner ≡ owner_of q.descriptor →
         sacl ≡ sacl_of q.descriptor →
         Lent (in_buffer n (report_in lent q.kind q.mask l owner q.self sacl (rules_by_lengths q.policy) a)) before after told →
         Lent (in_buffer n (lending lent (report_past q))) before after told
-    lent-audited b l owner sacl listing named held x =
+    lent_audited b l owner sacl listing named held x =
         let s = number_sound (standing_of q.policy) reports.taken.sound in
-        let o = report-listed q t lent l owner sacl a (shaped b) listing named held s (answer_held a read) in
+        let o = report_listed q t lent l owner sacl a (shaped b) listing named held s (answer_held a read) in
         rw (reports.told, ← o) x

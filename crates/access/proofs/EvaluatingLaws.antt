@@ -1,5 +1,5 @@
--- Laws of the evaluation over a listing (specs: Evaluating). `found-listed`: over the listing of a token it finds what the rules say of the
--- token. `privileges-low`: the two privileges that are read stand in the lower word of the enabled privileges.
+-- Laws of the evaluation over a listing (specs: Evaluating). `found_listed`: over the listing of a token it finds what the rules say of the
+-- token. `privileges_low`: the two privileges that are read stand in the lower word of the enabled privileges.
 -- Assumes nothing.
 use Prim.Native.Nat.{ℕ, ◌%◌, ◌^◌, ◌<◌}
 use mathlib.Core.Path.{◌≡◌, refl, sym, ap, ◌∙◌}
@@ -13,7 +13,7 @@ use Rattle.records.specs.Token.{Token, confined, exempt}
 use Rattle.records.specs.Shaped.{Shaped}
 use Rattle.records.specs.FlatListing.{listing_of}
 use Rattle.records.specs.Crowd.{Member, crowd_at, crowd_of, confined_of, confined_place}
-use Rattle.records.proofs.CrowdLaws.{flags-listed, privileges-listed, crowd-listed, confined-listed}
+use Rattle.records.proofs.CrowdLaws.{flags_listed, privileges_listed, crowd_listed, confined_listed}
 use Rattle.passes.specs.Matching.{hits_of}
 use Rattle.passes.specs.NormalEvaluation.{Dacl, privileges_give, list_gives, normal_of}
 use Rattle.passes.specs.Confinement.{everything, confinement_of}
@@ -51,9 +51,9 @@ ruled_low kind ms h p st (r ∷ rs) = rw (judged_low kind ms h p st r) (ruled_lo
 -- ---- the whole
 
 module _ (kind : ℕ) (t : Token) (owner self : List ℕ) (d : Dacl) where
-  pub confinement-listed : Shaped t → confinement_in kind (listing_of t) (confined_place t) owner self d ≡ confinement_of kind t owner self d
+  pub confinement_listed : Shaped t → confinement_in kind (listing_of t) (confined_place t) owner self d ≡ confinement_of kind t owner self d
   unfolding confinement_in confinement_of
-  confinement-listed o = rw (flags-listed t o) (go (confined t.flags) refl)
+  confinement_listed o = rw (flags_listed t o) (go (confined t.flags) refl)
     where
       go : (b : Bool) → confined t.flags ≡ b →
           cond (b && not (exempt t.flags))
@@ -61,17 +61,17 @@ module _ (kind : ℕ) (t : Token) (owner self : List ℕ) (d : Dacl) where
           (hits_of (crowd_at false (listing_of t) (confined_place t)) owner self) d)
           everything
           ≡ cond (b && not (exempt t.flags)) (list_gives kind (confined_of t) (hits_of (confined_of t) owner self) d) everything
-      go true e = rw (confined-listed t o e)
+      go true e = rw (confined_listed t o e)
       go false e = refl
 
-  pub found-listed : (rules : List Lists) → Shaped t →
+  pub found_listed : (rules : List Lists) → Shaped t →
       found_in kind (listing_of t) (confined_place t) owner self d rules ≡ found_of kind t owner self d rules
   unfolding found_in found_of
-  found-listed rules o =
+  found_listed rules o =
       rw (
-        confinement-listed o,
-        crowd-listed t o,
-        privileges-listed t,
+        confinement_listed o,
+        crowd_listed t o,
+        privileges_listed t,
         normal_low kind (crowd_of t) (hits_of (crowd_of t) owner self) t.privileges d,
         ruled_low kind (crowd_of t) (hits_of (crowd_of t) owner self) t.privileges unruled rules,
       )

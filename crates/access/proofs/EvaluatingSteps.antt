@@ -17,9 +17,9 @@ use Rattle.passes.specs.Chains.{shown, Tables, tables, chains_of}
 use Rattle.passes.specs.OneWalk.{walked_of, listed_by, normal_by}
 use Rattle.passes.specs.declared.matching.Hits.{Hits}
 use Rattle.passes.specs.declared.walk.Walked.{Walked}
-use Rattle.passes.proofs.CrowdsLaws.{Alike, hits-alike, walked-alike}
-use Rattle.passes.proofs.ChainedLaws.{chains-say}
-use Rattle.passes.proofs.EvaluationLaws.{listed-is, normal-is}
+use Rattle.passes.proofs.CrowdsLaws.{Alike, hits_alike, walked_alike}
+use Rattle.passes.proofs.ChainedLaws.{chains_say}
+use Rattle.passes.proofs.EvaluationLaws.{listed_is, normal_is}
 use Rattle.policy.specs.Rules.{Lists, unruled, ruled_by}
 use Rattle.policy.specs.declared.rules.Ruled.{Ruled}
 use Rattle.policy.proofs.RulesLaws.{ruled_alike}
@@ -39,10 +39,10 @@ module _ (attrs : Bool) (l : List ℕ) (at : ℕ) (h0 s0 heads seats : List ℕ)
   abbrev made : Tables
   made = chains_of attrs l at (tables h0 s0)
 
-  pub crowd-shown : Alike (shown heads seats l) (crowd_at attrs l at)
-  crowd-shown allow w =
+  pub crowd_shown : Alike (shown heads seats l) (crowd_at attrs l at)
+  crowd_shown allow w =
       ap₂ (λ (h s : List ℕ). among allow (shown h s l) w) first second
-      ∙ chains-say h0 s0 (λ k. ap (λ (h : List ℕ). get_or h k 0) clear ∙ zeros 512 k) (ap length clear ∙ length-replicate {A = ℕ} 512 0)
+      ∙ chains_say h0 s0 (λ k. ap (λ (h : List ℕ). get_or h k 0) clear ∙ zeros 512 k) (ap length clear ∙ length-replicate {A = ℕ} 512 0)
       narrow attrs l at short few made refl allow w
 
 -- ---- those whom the tables show answer as the crowd does
@@ -52,41 +52,41 @@ module _ (kind : ℕ) (ms ns : List Member) (same : Alike ms ns) (owner self : L
   hits = hits_of ms owner self
 
   -- normal evaluation, from the walk over the entries
-  pub normal-walked : (present : Bool) (p : ℕ) (l : List ℕ) (h : Hits) (w : Walked) → h ≡ hits → w ≡ walked_of kind ms h
+  pub normal_walked : (present : Bool) (p : ℕ) (l : List ℕ) (h : Hits) (w : Walked) → h ≡ hits → w ≡ walked_of kind ms h
       (entries_by_length l) →
       normal_by kind present w h p ≡ normal_of kind ns (hits_of ns owner self) p (dacl_as present l)
-  normal-walked present p l h w e f =
-      normal-is kind ns h (dacl_as present l) w (f ∙ walked-alike ms ns same kind h (entries_by_length l)) p
-      ∙ ap (λ (x : Hits). normal_of kind ns x p (dacl_as present l)) (e ∙ hits-alike ms ns same owner self)
+  normal_walked present p l h w e f =
+      normal_is kind ns h (dacl_as present l) w (f ∙ walked_alike ms ns same kind h (entries_by_length l)) p
+      ∙ ap (λ (x : Hits). normal_of kind ns x p (dacl_as present l)) (e ∙ hits_alike ms ns same owner self)
 
   -- what the list alone gives
-  pub listed-walked : (present : Bool) (l : List ℕ) (h : Hits) (w : Walked) → h ≡ hits → w ≡ walked_of kind ms h (entries_by_length l) →
+  pub listed_walked : (present : Bool) (l : List ℕ) (h : Hits) (w : Walked) → h ≡ hits → w ≡ walked_of kind ms h (entries_by_length l) →
       listed_by kind present w ≡ list_gives kind ns (hits_of ns owner self) (dacl_as present l)
-  listed-walked present l h w e f =
-      listed-is kind ns h (dacl_as present l) w (f ∙ walked-alike ms ns same kind h (entries_by_length l))
-      ∙ ap (λ (x : Hits). list_gives kind ns x (dacl_as present l)) (e ∙ hits-alike ms ns same owner self)
+  listed_walked present l h w e f =
+      listed_is kind ns h (dacl_as present l) w (f ∙ walked_alike ms ns same kind h (entries_by_length l))
+      ∙ ap (λ (x : Hits). list_gives kind ns x (dacl_as present l)) (e ∙ hits_alike ms ns same owner self)
 
   -- what all rules leave
-  pub rules-shown : (p : ℕ) (rs : List Lists) (h : Hits) (r : Ruled) → h ≡ hits → r ≡ ruled_by kind ms h p rs →
+  pub rules_shown : (p : ℕ) (rs : List Lists) (h : Hits) (r : Ruled) → h ≡ hits → r ≡ ruled_by kind ms h p rs →
       r ≡ ruled_by kind ns (hits_of ns owner self) p rs
-  rules-shown p rs h r e f =
+  rules_shown p rs h r e f =
       f
       ∙ ruled_alike ms ns same kind h p unruled rs
-      ∙ ap (λ (x : Hits). ruled_by kind ns x p rs) (e ∙ hits-alike ms ns same owner self)
+      ∙ ap (λ (x : Hits). ruled_by kind ns x p rs) (e ∙ hits_alike ms ns same owner self)
 
 -- ---- confinement, and what is found of it all
 
 module _ (kind : ℕ) (l : List ℕ) (at : ℕ) (owner self : List ℕ) (present : Bool) (list : List ℕ) where
-  pub not-confined : confines (flags_in l) ≡ false → confinement_in kind l at owner self (dacl_as present list) ≡ everything
+  pub not_confined : confines (flags_in l) ≡ false → confinement_in kind l at owner self (dacl_as present list) ≡ everything
   unfolding confinement_in
-  not-confined e = rw e
+  not_confined e = rw e
 
-  pub is-confined : confines (flags_in l) ≡ true → confinement_in kind l at owner self (dacl_as present list)
+  pub is_confined : confines (flags_in l) ≡ true → confinement_in kind l at owner self (dacl_as present list)
       ≡ list_gives kind (crowd_at false l at) (hits_of (crowd_at false l at) owner self) (dacl_as present list)
   unfolding confinement_in
-  is-confined e = rw e
+  is_confined e = rw e
 
-  pub found-made : (rules : List Lists) (n c : Rights) (r : Ruled) →
+  pub found_made : (rules : List Lists) (n c : Rights) (r : Ruled) →
       n.0 ≡ normal_of kind (crowd_in l) (hits_of (crowd_in l) owner self) (privileges_in l) (dacl_as present list) →
       c.0 ≡ confinement_in kind l at owner self (dacl_as present list) →
       r ≡ ruled_by kind (crowd_in l) (hits_of (crowd_in l) owner self) (privileges_in l) rules →
@@ -101,4 +101,4 @@ module _ (kind : ℕ) (l : List ℕ) (at : ℕ) (owner self : List ℕ) (present
       })
       (found_in kind l at owner self (dacl_as present list) rules)
   unfolding found_in
-  found-made rules n c r e f g = rw (← e, ← f, ← g)
+  found_made rules n c r e f g = rw (← e, ← f, ← g)

@@ -1,5 +1,5 @@
 -- Laws of findings (specs: Findings). `findings-..`: the ways out of `findings_in`, one for each number, and what is found. `Taken`: a
--- question for which something is found. `past-stopped`, `past-taken`: the report on a question (specs: Reported) is read off what is
+-- question for which something is found. `past_stopped`, `past_taken`: the report on a question (specs: Reported) is read off what is
 -- found, whatever the mask. `report-..`: kind and mask come before it.
 -- Assumes nothing.
 use Prim.Native.Nat.{ℕ}
@@ -27,33 +27,33 @@ use Rattle.access.specs.declared.answer.Findings.{Findings}
 -- ---- the ways out of `findings_in`
 
 module _ (kind : ℕ) (token self d p : List ℕ) where
-  pub findings-misshapen : read_record token ≡ none → findings_of kind token self d p ≡ stopped 3
+  pub findings_misshapen : read_record token ≡ none → findings_of kind token self d p ≡ stopped 3
   unfolding findings_of
-  findings-misshapen e = rw e
+  findings_misshapen e = rw e
 
   module _ (t : Token) (end : ℕ) (read : read_record token ≡ some t end) where
-    pub findings-broken : keeps t ≡ false → findings_of kind token self d p ≡ stopped 4
+    pub findings_broken : keeps t ≡ false → findings_of kind token self d p ≡ stopped 4
     unfolding findings_of
-    findings-broken e = rw (read, e)
+    findings_broken e = rw (read, e)
 
     module _ (kept : keeps t ≡ true) where
-      pub findings-self : self_fits self ≡ false → findings_of kind token self d p ≡ stopped 5
+      pub findings_self : self_fits self ≡ false → findings_of kind token self d p ≡ stopped 5
       unfolding findings_of found_after
-      findings-self e = rw (read, kept, e)
+      findings_self e = rw (read, kept, e)
 
       module _ (fits : self_fits self ≡ true) where
-        pub findings-descriptor : (descriptor_number d ≡ 0 → ⊥) → findings_of kind token self d p ≡ stopped (descriptor_number d)
+        pub findings_descriptor : (descriptor_number d ≡ 0 → ⊥) → findings_of kind token self d p ≡ stopped (descriptor_number d)
         unfolding findings_of found_after
-        findings-descriptor e = rw (read, kept, fits, ne_eqb (descriptor_number d) 0 e)
+        findings_descriptor e = rw (read, kept, fits, ne_eqb (descriptor_number d) 0 e)
 
         module _ (whole : descriptor_number d ≡ 0) where
-          pub findings-policy : (policy_number p ≡ 0 → ⊥) → findings_of kind token self d p ≡ stopped (policy_number p)
+          pub findings_policy : (policy_number p ≡ 0 → ⊥) → findings_of kind token self d p ≡ stopped (policy_number p)
           unfolding findings_of found_after
-          findings-policy e = rw (read, kept, fits, eq-eqb (descriptor_number d) 0 whole, ne_eqb (policy_number p) 0 e)
+          findings_policy e = rw (read, kept, fits, eq-eqb (descriptor_number d) 0 whole, ne_eqb (policy_number p) 0 e)
 
-          pub findings-found : policy_number p ≡ 0 → findings_of kind token self d p ≡ accepted t d (findings kind t self d p)
+          pub findings_found : policy_number p ≡ 0 → findings_of kind token self d p ≡ accepted t d (findings kind t self d p)
           unfolding findings_of found_after
-          findings-found e = rw (read, kept, fits, eq-eqb (descriptor_number d) 0 whole, eq-eqb (policy_number p) 0 e)
+          findings_found e = rw (read, kept, fits, eq-eqb (descriptor_number d) 0 whole, eq-eqb (policy_number p) 0 e)
 
 -- ---- a question for which something is found
 
@@ -102,22 +102,22 @@ outcome q = go (read_record q.token) refl
     d = q.descriptor
 
     go : (r : Read Token) → read_record q.token ≡ r → Outcome q (findings_for q) (with_token q r)
-    go none e = ended 3 (λ z. omega arith) (findings-misshapen q.kind q.token q.self d q.policy e) refl
+    go none e = ended 3 (λ z. omega arith) (findings_misshapen q.kind q.token q.self d q.policy e) refl
     go (some t end) e = keeping (keeps t) refl
       where
         keeping : (k : Bool) → keeps t ≡ k → Outcome q (findings_for q) (cond k (after_token q t) (refused 4))
-        keeping false g = ended 4 (λ z. omega arith) (findings-broken q.kind q.token q.self d q.policy t end e g) refl
+        keeping false g = ended 4 (λ z. omega arith) (findings_broken q.kind q.token q.self d q.policy t end e g) refl
         keeping true g = fitting (self_fits q.self) refl
           where
             fitting : (a : Bool) → self_fits q.self ≡ a → Outcome q (findings_for q) (after_token q t)
             fitting false x =
-                ended 5 (λ z. omega arith) (findings-self q.kind q.token q.self d q.policy t end e g x) (after_self q t x)
+                ended 5 (λ z. omega arith) (findings_self q.kind q.token q.self d q.policy t end e g x) (after_self q t x)
             fitting true x = standing (eqb (descriptor_number d) 0) refl
               where
                 standing : (b : Bool) → eqb (descriptor_number d) 0 ≡ b → Outcome q (findings_for q) (after_token q t)
                 standing false y =
                     let n = eqb-false _ _ y in
-                    ended (descriptor_number d) n (findings-descriptor q.kind q.token q.self d q.policy t end e g x n)
+                    ended (descriptor_number d) n (findings_descriptor q.kind q.token q.self d q.policy t end e g x n)
                     (after_descriptor q t x n)
                 standing true y = ruling (eqb (policy_number q.policy) 0) refl
                   where
@@ -128,7 +128,7 @@ outcome q = go (read_record q.token) refl
                     ruling false z =
                         let n = eqb-false _ _ z in
                         ended (policy_number q.policy) n
-                        (findings-policy q.kind q.token q.self d q.policy t end e g x w n)
+                        (findings_policy q.kind q.token q.self d q.policy t end e g x w n)
                         (after_policy q t x w n)
                     ruling true z =
                         let s = eqb-true _ _ z in
@@ -140,7 +140,7 @@ outcome q = go (read_record q.token) refl
                           kept = g;
                           whole = w;
                           sound = s;
-                          is = findings-found q.kind q.token q.self d q.policy t end e g x w s;
+                          is = findings_found q.kind q.token q.self d q.policy t end e g x w s;
                         })
                         (after_all q t x w s)
 
@@ -157,9 +157,9 @@ told q a n e h =
     ∙ ap (report (refused n)) (trail_none n q (read_record q.token) h)
 
 module _ (q : Question) where
-  pub past-stopped : (f : Findings) → f ≡ findings_for q → (f.status ≡ 0 → ⊥) → report_past q ≡ refusal f.status
+  pub past_stopped : (f : Findings) → f ≡ findings_for q → (f.status ≡ 0 → ⊥) → report_past q ≡ refusal f.status
   unfolding report_past
-  past-stopped f e n = go (outcome q)
+  past_stopped f e n = go (outcome q)
     where
       go : Outcome q (findings_for q) (with_token q (read_record q.token)) →
           report (with_token q (read_record q.token)) (trail_for (with_token q (read_record q.token)) q (read_record q.token))
@@ -171,24 +171,24 @@ module _ (q : Question) where
     pub taken : Taken q f
     pub told : report_past q ≡ report (answer_to q taken.token) (trail_bytes (events_for q taken.token))
 
-  pub past-taken : (f : Findings) → f ≡ findings_for q → f.status ≡ 0 → Reports f
+  pub past_taken : (f : Findings) → f ≡ findings_for q → f.status ≡ 0 → Reports f
   unfolding report_past answer_to answer_of
-  past-taken f e n = rw e (go (outcome q))
+  past_taken f e n = rw e (go (outcome q))
     where
       go : Outcome q (findings_for q) (with_token q (read_record q.token)) → Reports (findings_for q)
       go (ended m h g a) = absurd (h (sym (ap (λ (x : Findings). x.status) (e ∙ g)) ∙ n))
       go (went_on t a) = record { taken = t; told = rw (a, t.read) refl }
 
   -- kind and mask come first
-  pub report-kind : known_kind q.kind ≡ false → report_of q ≡ refusal 1
+  pub report_kind : known_kind q.kind ≡ false → report_of q ≡ refusal 1
   unfolding report_of checked
-  report-kind k = told q (checked q) 1 (rw k refl) (λ z. omega arith)
+  report_kind k = told q (checked q) 1 (rw k refl) (λ z. omega arith)
 
   module _ (k : known_kind q.kind ≡ true) where
-    pub report-mask : legal q.kind q.mask ≡ false → report_of q ≡ refusal 2
+    pub report_mask : legal q.kind q.mask ≡ false → report_of q ≡ refusal 2
     unfolding report_of checked
-    report-mask l = told q (checked q) 2 (rw (k, l) refl) (λ z. omega arith)
+    report_mask l = told q (checked q) 2 (rw (k, l) refl) (λ z. omega arith)
 
-    pub report-past : legal q.kind q.mask ≡ true → report_of q ≡ report_past q
+    pub report_past_lem : legal q.kind q.mask ≡ true → report_of q ≡ report_past q
     unfolding report_of report_past checked
-    report-past l = rw (k, l)
+    report_past_lem l = rw (k, l)

@@ -1,5 +1,5 @@
 -- Laws of reports (specs: Reported). `lent-..`: what is handed out, refused or without a trail. `unasked`: where no list asks for an audit
--- there is nothing to do. `report-listed`: the audit over a token's listing is that of the token.
+-- there is nothing to do. `report_listed`: the audit over a token's listing is that of the token.
 -- Assumes nothing.
 use Prim.Native.Nat.{ℕ}
 use mathlib.Core.Path.{◌≡◌, refl, sym, ap, ap₂, ◌∙◌}
@@ -15,15 +15,15 @@ use Rattle.records.specs.Token.{Token}
 use Rattle.records.specs.Shaped.{Shaped}
 use Rattle.records.specs.FlatListing.{listing_of}
 use Rattle.records.specs.Crowd.{crowd_of}
-use Rattle.records.proofs.CrowdLaws.{crowd-listed}
+use Rattle.records.proofs.CrowdLaws.{crowd_listed}
 use Rattle.policy.specs.Policy.{standing_of}
 use Rattle.policy.specs.Rules.{rules_of, unruled, some_audit, some_staged_audit}
 use Rattle.policy.specs.ByLengths.{rules_by_lengths}
 use Rattle.policy.specs.declared.shape.Standing.TheVariants.{Sound}
-use Rattle.policy.proofs.PolicyLaws.{sound-by-lengths}
-use Rattle.policy.proofs.RulesLaws.{audits-some, staged-audits-some}
+use Rattle.policy.proofs.PolicyLaws.{sound_by_lengths}
+use Rattle.policy.proofs.RulesLaws.{audits_some, staged_audits_some}
 use Rattle.audit.specs.Trail.{trail_bytes}
-use Rattle.audit.proofs.NothingLaws.{nothing_there, no-events, no-stages}
+use Rattle.audit.proofs.NothingLaws.{nothing_there, no_events, no_stages}
 use Rattle.answers.specs.Granted.{flagged, refused}
 use Rattle.access.specs.Evaluated.{found_of}
 use Rattle.access.specs.Status.{Question, findings, by_lists, sought_for, hits_for, raised_for, events_for, answer_to}
@@ -62,19 +62,19 @@ module _ (q : Question) (t : Token) where
   -- what is found tells it
   audits_told : (findings q.kind t q.self q.descriptor q.policy).has_sacl ≡ some_audit (crowd_of t) (hits_for q t) (rules_of q.policy)
   unfolding found_of
-  audits_told = audits-some q.kind (crowd_of t) (hits_for q t) t.privileges unruled (rules_of q.policy)
+  audits_told = audits_some q.kind (crowd_of t) (hits_for q t) t.privileges unruled (rules_of q.policy)
 
   stages_told : (findings q.kind t q.self q.descriptor q.policy).has_staged_sacl
       ≡ some_staged_audit (crowd_of t) (hits_for q t) (rules_of q.policy)
   unfolding found_of
-  stages_told = staged-audits-some q.kind (crowd_of t) (hits_for q t) t.privileges unruled (rules_of q.policy)
+  stages_told = staged_audits_some q.kind (crowd_of t) (hits_for q t) t.privileges unruled (rules_of q.policy)
 
   trail_unasked : (lent : Bool) → (lent && (ltb 0 (length (sacl_of q.descriptor))
       || (findings q.kind t q.self q.descriptor q.policy).has_sacl)) ≡ false → cond lent (trail_bytes (events_for q t)) [] ≡ []
   unfolding trail_bytes
   trail_unasked true e =
       let f = neither _ _ e in
-      ap trail_bytes (no-events (sought_for q t) (crowd_of t) (hits_for q t) (sacl_of q.descriptor) (rules_of q.policy)
+      ap trail_bytes (no_events (sought_for q t) (crowd_of t) (hits_for q t) (sacl_of q.descriptor) (rules_of q.policy)
       (nothing_there (sacl_of q.descriptor) f.0) (sym audits_told ∙ f.1))
   trail_unasked false e = refl
 
@@ -85,14 +85,14 @@ module _ (q : Question) (t : Token) where
   unasked lent e =
       let f = neither _ _ e in
       let s : raised_for q t ≡ false =
-      no-stages (sought_for q t) (crowd_of t) (hits_for q t) (rules_of q.policy) (sym stages_told ∙ f.0) in
+      no_stages (sought_for q t) (crowd_of t) (hits_for q t) (rules_of q.policy) (sym stages_told ∙ f.0) in
       ap₂ report (ap (flagged (by_lists q t)) s ∙ flagged_not (by_lists q t)) (trail_unasked lent f.1)
 
   -- ---- the audit over a listing
 
-  pub report-listed : (lent : Bool) (l owner sacl : List ℕ) (a : Answer) → Shaped t → l ≡ listing_of t → owner ≡ owner_of q.descriptor →
+  pub report_listed : (lent : Bool) (l owner sacl : List ℕ) (a : Answer) → Shaped t → l ≡ listing_of t → owner ≡ owner_of q.descriptor →
       sacl ≡ sacl_of q.descriptor → standing_of q.policy ≡ Sound → a ≡ by_lists q t →
       report_in lent q.kind q.mask l owner q.self sacl (rules_by_lengths q.policy) a
       ≡ lending lent (report (answer_to q t) (trail_bytes (events_for q t)))
   unfolding report_in answer_to
-  report-listed lent l owner sacl a o e f g s h = rw (e, f, g, h, sound-by-lengths q.policy s, crowd-listed t o) refl
+  report_listed lent l owner sacl a o e f g s h = rw (e, f, g, h, sound_by_lengths q.policy s, crowd_listed t o) refl

@@ -1,4 +1,4 @@
--- How many seats the crowds of a listing need (specs: Evaluating): no more than the counts in it say (few-seatable).
+-- How many seats the crowds of a listing need (specs: Evaluating): no more than the counts in it say (few_seatable).
 -- Assumes nothing.
 use Prim.Native.Nat.{ℕ, zero, suc, ◌+◌, ◌≤◌}
 use mathlib.Core.Bool.{Bool, true, false, cond}

@@ -1,6 +1,6 @@
--- What `list_in` hands to the evaluation: a refusal's number (token-refused), or the bytes of the token's listing with the place of the
--- confinement identity (Held, held); what is found over them (found-whole); how long a listing and its crowds are at most (crowd-few,
--- confined-few, held-limits).
+-- What `list_in` hands to the evaluation: a refusal's number (token_refused), or the bytes of the token's listing with the place of the
+-- confinement identity (Held, held); what is found over them (found_whole); how long a listing and its crowds are at most (crowd_few,
+-- confined_few, held_limits).
 -- Assumes nothing.
 use Prim.Native.Nat.{ℕ, ◌≤◌}
 use mathlib.Core.Path.{◌≡◌, refl, sym, ap, ◌∙◌}
@@ -14,7 +14,7 @@ use Rattle.base.specs.Bytes.{Read}
 use Rattle.base.specs.Bytes.Read.{none, some}
 use Rattle.base.proofs.PlaceLaws.{Stands}
 use Rattle.lists.proofs.ByLengthLaws.{dacl_by_length}
-use Rattle.sids.proofs.SidLaws.{sid-end-short}
+use Rattle.sids.proofs.SidLaws.{sid_end_short}
 use Rattle.lists.specs.Descriptor as descriptor
 use Rattle.lists.specs.declared.descriptor.Parts.{Parts}
 use Rattle.lists.specs.declared.descriptor.Verdict.{Verdict}
@@ -33,7 +33,7 @@ use Rattle.tokens.specs.declared.flat.Extent.{Extent}
 use Rattle.tokens.specs.declared.judging.Judged.{Judged}
 use Rattle.records.proofs.RoundTrip.{record_form}
 use Rattle.records.proofs.LimitLaws.{listing_short}
-use Rattle.records.proofs.CrowdLaws.{confinement-stand, crowd-listed, confined-listed}
+use Rattle.records.proofs.CrowdLaws.{confinement_stand, crowd_listed, confined_listed}
 use Rattle.tokens.proofs.ConvertLaws.{Listed}
 use Rattle.lists.specs.Descriptor.{parts_of, owner_of, dacl_of}
 use Rattle.policy.specs.Policy as policy
@@ -42,14 +42,14 @@ use Rattle.policy.specs.declared.shape.Standing.{Standing}
 use Rattle.policy.specs.declared.shape.Standing.TheVariants.{Sound, Misshapen, Unread}
 use Rattle.policy.specs.Rules.{rules_of}
 use Rattle.policy.specs.ByLengths.{rules_by_lengths}
-use Rattle.policy.proofs.PolicyLaws.{sound-by-lengths}
+use Rattle.policy.proofs.PolicyLaws.{sound_by_lengths}
 use Rattle.access.specs.Status.{descriptor_number, policy_number, dacl_in, findings}
 use Rattle.access.specs.Evaluating.{dacl_as, found_in}
 use Rattle.answers.specs.declared.answer.Found.{Found}
 use Rattle.access.specs.declared.answer.Findings.{Findings}
 use Rattle.access.specs.Findings.{stopped, accepted, findings_of}
-use Rattle.access.proofs.FindingsLaws.{findings-misshapen, findings-broken}
-use Rattle.access.proofs.EvaluatingLaws.{found-listed}
+use Rattle.access.proofs.FindingsLaws.{findings_misshapen, findings_broken}
+use Rattle.access.proofs.EvaluatingLaws.{found_listed}
 
 -- only a sound policy has no number
 pub number_sound : (v : Standing) → policy.number_of v ≡ 0 → v ≡ Sound
@@ -103,13 +103,13 @@ unfolding as_listing
 token_refused kind s self d p r room o n = go (read_record s) refl o.status
   where
     go : (x : Read Token) → read_record s ≡ x → r.status ≡ (converted listing_of x).status → findings_of kind s self d p ≡ stopped r.status
-    go none e q = rw q (findings-misshapen kind s self d p e)
+    go none e q = rw q (findings_misshapen kind s self d p e)
     go (some t end) e q = by (keeps t) refl q
       where
         by : (k : Bool) → keeps t ≡ k → r.status ≡ (cond k (full_result (listing_of t)) (refusal 4)).status →
             findings_of kind s self d p ≡ stopped r.status
         by true f q' = absurd (n q')
-        by false f q' = rw q' (findings-broken kind s self d p t end e f)
+        by false f q' = rw q' (findings_broken kind s self d p t end e f)
 
 -- the room after a refusal, of which nothing is said
 pub stopped_room : (n : ℕ) (r : Findings) (room s : List ℕ) → r ≡ stopped n → (n ≡ 0 → ⊥) →
@@ -140,9 +140,9 @@ found_whole kind s r room t bytes l owner list self d p present f listing named 
       there,
       null,
       dacl_by_length d (number_whole (parts_of d).verdict whole),
-      sound-by-lengths p (number_sound (standing_of p) sound),
+      sound_by_lengths p (number_sound (standing_of p) sound),
     )
-    (found-listed kind t.token (owner_of d) self (dacl_in d) (rules_of p) o)
+    (found_listed kind t.token (owner_of d) self (dacl_in d) (rules_of p) o)
 
 -- and it is handed out with the listing's length and the places of owner and SACL
 pub findings_made : {f : Found} (g : Found) (t : Token) (d : List ℕ) {n : ℕ} (p : Parts) → f ≡ g → n ≡ length (listing_of t) → p ≡ parts_of d →
@@ -155,7 +155,7 @@ findings_made g t d p e l q = rw (e, l, q)
 pub crowd_few : (t : Token) → Shaped t → length (crowd_at true (listing_of t) 12) ≤ 257
 crowd_few t o =
     let m = length-map t.groups (λ (g : Group). shown g.sid g.attributes) in
-    rw (crowd-listed t o) (omega (arith, m, o.few))
+    rw (crowd_listed t o) (omega (arith, m, o.few))
 
 -- the confinement identity and at most 64 capabilities; nobody where the token is not confined, since the listing ends there
 pub confined_few : (t : Token) → Shaped t → length (crowd_at false (listing_of t) (confined_place t)) ≤ 257
@@ -166,13 +166,13 @@ confined_few t o = go (confined t.flags) refl
     go true e =
         let c : ShapedConfined t.confinement = rw e at o.confinement in
         let m = length-map t.confinement.capabilities plain in
-        rw (confined-listed t o e) (omega (arith, m, c.few))
+        rw (confined_listed t o e) (omega (arith, m, c.few))
     go false e =
         let x : Stands (listing_of t) (confined_place t) (confinement_bytes flat_writer false t.confinement) [] =
-        rw e at (confinement-stand t) in
+        rw e at (confinement_stand t) in
         let l = length-drop (confined_place t) (listing_of t) in
         let z = ap length x.here in
-        rw (sid-end-short (listing_of t) (confined_place t) (omega (arith, l, z))) (omega arith)
+        rw (sid_end_short (listing_of t) (confined_place t) (omega (arith, l, z))) (omega arith)
 
 -- of the listing of an accepted record, as it is handed to the evaluation
 pub held_limits : (s : List ℕ) (r : Extent) (room : List ℕ) (t : Held s r room) → T (are_bytes s) → (l : List ℕ) → l ≡ take r.length

@@ -1,5 +1,5 @@
--- What the evaluation finds, read from the bytes of a flat listing: `foundOf` of Evaluated, with the token in its listing (EvaluatingLaws,
--- `found-listed`). The confinement identity stands at a place that the reader of tokens names.
+-- What the evaluation finds, read from the bytes of a flat listing: `found_of` of Evaluated, with the token in its listing (EvaluatingLaws,
+-- `found_listed`). The confinement identity stands at a place that the reader of tokens names.
 use Rattle.std.specs.Prelude.{ℕ, ◌<◌, ◌≤◌, List, Bool, true, false, cond, ◌&&◌, ltb, length}
 use Rattle.base.specs.Bytes.{u32_at}
 use Rattle.base.specs.Bits.{and}

@@ -1,5 +1,5 @@
--- Where there is nothing to do: no SACL has no events (no-events), and where no rule that applies has a staged SACL, staged audit does not
--- differ (no-stages). Assumes nothing.
+-- Where there is nothing to do: no SACL has no events (no_events), and where no rule that applies has a staged SACL, staged audit does not
+-- differ (no_stages). Assumes nothing.
 use Prim.Native.Nat.{ℕ, ◌+◌, ◌≤◌}
 use mathlib.Core.Path.{◌≡◌, refl, ap, ap₂, ◌∙◌}
 use mathlib.Core.List.{List, [], ◌∷◌, ◌++◌}
@@ -51,8 +51,8 @@ module _ (s : Sought) (ms : List Member) (h : Hits) where
       (none_by i r (given (applies_to ms h r) (there r.sacl) (some_audit ms h rs) e))
       (none_by_rules (i + 1) rs (behind (applies_to ms h r) (there r.sacl) (some_audit ms h rs) e))
 
-  pub no-events : (sacl : List ℕ) (rules : List Lists) → sacl ≡ [] → some_audit ms h rules ≡ false → events_of s ms h sacl rules ≡ []
-  no-events sacl rules e f =
+  pub no_events : (sacl : List ℕ) (rules : List Lists) → sacl ≡ [] → some_audit ms h rules ≡ false → events_of s ms h sacl rules ≡ []
+  no_events sacl rules e f =
       ap₂ (λ (a b : List Event). a ++ b) (ap (events_in s ms h 0) e ∙ none_in 0) (none_by_rules 1 rules f)
 
   stages_not : (r : Lists) → (applies_to ms h r ≡ true → there r.staged_sacl ≡ false) → rule_stages s ms h r ≡ false
@@ -62,11 +62,11 @@ module _ (s : Sought) (ms : List Member) (h : Hits) where
       go true q = rw (e q)
       go false q = rw q (and-false (there r.staged_sacl))
 
-  pub no-stages : (rules : List Lists) → some_staged_audit ms h rules ≡ false → stages_audit s ms h rules ≡ false
+  pub no_stages : (rules : List Lists) → some_staged_audit ms h rules ≡ false → stages_audit s ms h rules ≡ false
   unfolding some_staged_audit stages_audit
-  no-stages [] e = refl
-  no-stages (r ∷ rs) e =
+  no_stages [] e = refl
+  no_stages (r ∷ rs) e =
       ap₂
       (λ (a b : Bool). a || b)
       (stages_not r (given (applies_to ms h r) (there r.staged_sacl) (some_staged_audit ms h rs) e))
-      (no-stages rs (behind (applies_to ms h r) (there r.staged_sacl) (some_staged_audit ms h rs) e))
+      (no_stages rs (behind (applies_to ms h r) (there r.staged_sacl) (some_staged_audit ms h rs) e))

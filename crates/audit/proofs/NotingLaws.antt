@@ -1,6 +1,6 @@
 -- Measuring or writing at a place, one thing after the other. No contract of a caller cites this file.
--- In order: what stands there afterwards (noted-nil, noted-append, noted-length), what was noted (noted-none, noted-both, noted-same,
--- noted-long), the room for it (room-none, room-same, room-first, room-second), what a loop has left (Ahead, ahead-..), the groups of a
+-- In order: what stands there afterwards (noted_nil, noted_append, noted_length), what was noted (noted_none, noted_both, noted_same,
+-- noted_long), the room for it (room_none, room_same, room_first, room_second), what a loop has left (Ahead, ahead-..), the groups of a
 -- number that are still to be noted (Packs, packs-..), what is measured first and then written (measured-..).
 -- Assumes nothing.
 use Prim.Native.Nat.{ℕ, ◌+◌, ◌/◌, ◌%◌, ◌^◌, ◌<◌, ◌≤◌}
@@ -14,7 +14,7 @@ use lib.ListN.{length, set, length-append}
 use lib.Seq.{sets, length-sets}
 use borrow.Author.Tests.{lt-ltb, le-ltb}
 use Rattle.base.specs.Sevens.{sevens, packed}
-use Rattle.base.proofs.WriteLaws.{sets_append, Writes, writes_start, writes-room, writes_more, writes-last}
+use Rattle.base.proofs.WriteLaws.{sets_append, Writes, writes_start, writes_room, writes_more, writes_last}
 use Rattle.audit.specs.Noting.{noted, Noted, Room, fitting}
 
 -- ---- what stands there afterwards
@@ -84,15 +84,15 @@ pub ahead_start : (t : Bool) (l : List ℕ) (o : ℕ) (w : List ℕ) (v : List �
 ahead_start t l o w v e = record { bytes = ap (λ (k : List ℕ). noted t l o k) e; count = ap (λ (k : List ℕ). o + length k) e }
 
 module _ {t : Bool} {l : List ℕ} {o : ℕ} {w l' : List ℕ} {m : ℕ} {v : List ℕ} (x : Ahead t l o w l' m v) where
-  pub ahead-long : length l' ≡ length l
-  ahead-long = sym (noted_length t l' m v) ∙ ap length (sym x.bytes) ∙ noted_length t l o w
+  pub ahead_long : length l' ≡ length l
+  ahead_long = sym (noted_length t l' m v) ∙ ap length (sym x.bytes) ∙ noted_length t l o w
 
-  pub ahead-room : (a b : List ℕ) → v ≡ a ++ b → Room t l o w → Room t l' m a
-  ahead-room a b e h q =
+  pub ahead_room : (a b : List ℕ) → v ≡ a ++ b → Room t l o w → Room t l' m a
+  ahead_room a b e h q =
       let r = h q in
       let c = x.count in
       let d = ap length e ∙ length-append a b in
-      let k = ahead-long in
+      let k = ahead_long in
       omega arith
 
   pub ahead_step : (a b : List ℕ) {l'' : List ℕ} {r : ℕ} → v ≡ a ++ b → Noted t l' l'' m r a → Ahead t l o w l'' r b
@@ -108,8 +108,8 @@ module _ {t : Bool} {l : List ℕ} {o : ℕ} {w l' : List ℕ} {m : ℕ} {v : Li
         count = omega arith;
       }
 
-  pub ahead-done : v ≡ [] → Noted t l l' o m w
-  ahead-done e =
+  pub ahead_done : v ≡ [] → Noted t l l' o m w
+  ahead_done e =
       let c = x.count in
       let d : length v ≡ 0 = ap length e in
       record { place = omega arith; bytes = sym (x.bytes ∙ ap (λ (k : List ℕ). noted t l' m k) e ∙ noted_nil t l' m) }
@@ -141,11 +141,11 @@ stored_more false out₀ filled out out' i x e y = y ∙ e
 
 module _ {t : Bool} {out₀ : List ℕ} {o v : ℕ} {out : List ℕ} {n i : ℕ} (x : Packs t out₀ o v out n i) where
   -- one more place is free
-  pub packs-place : i < o + length (packed v)
-  packs-place = writes-room x.writes
+  pub packs_place : i < o + length (packed v)
+  packs_place = writes_room x.writes
 
-  pub packs-long : length out ≡ length out₀
-  packs-long =
+  pub packs_long : length out ≡ length out₀
+  packs_long =
       let w = x.writes in
       let f : length x.filled ≡ length out₀
       = sym (length-sets x.filled i (sevens w.left n)) ∙ ap length (sym w.bytes) ∙ length-sets out₀ o (packed v) in
@@ -155,20 +155,20 @@ module _ {t : Bool} {out₀ : List ℕ} {o v : ℕ} {out : List ℕ} {n i : ℕ}
       go true l e = e
       go false l e = refl
 
-  pub packs-room : Room t out₀ o (packed v) → t ≡ true → i < length out
-  packs-room h q = let p = packs-place in let l = packs-long in let r = h q in omega arith
+  pub packs_room : Room t out₀ o (packed v) → t ≡ true → i < length out
+  packs_room h q = let p = packs_place in let l = packs_long in let r = h q in omega arith
 
-  pub packs-more : (out' : List ℕ) → 128 ≤ n → Stored t out out' i (128 + n % 128) → Packs t out₀ o v out' (n / 128) (i + 1)
-  packs-more out' h y =
+  pub packs_more : (out' : List ℕ) → 128 ≤ n → Stored t out out' i (128 + n % 128) → Packs t out₀ o v out' (n / 128) (i + 1)
+  packs_more out' h y =
       record {
         filled = set x.filled i (128 + n % 128);
         writes = writes_more x.writes h;
         bytes = stored_more t out₀ x.filled out out' i (128 + n % 128) x.bytes y;
       }
 
-  pub packs-last : (out' : List ℕ) → n < 128 → Stored t out out' i n → Noted t out₀ out' o (i + 1) (packed v)
-  packs-last out' h y =
-      let w = writes-last x.writes h in
+  pub packs_last : (out' : List ℕ) → n < 128 → Stored t out out' i n → Noted t out₀ out' o (i + 1) (packed v)
+  packs_last out' h y =
+      let w = writes_last x.writes h in
       record {
         place = w.place;
         bytes = stored_more t out₀ x.filled out out' i n x.bytes y ∙ ap (λ (l : List ℕ). cond t l out₀) w.bytes;
@@ -181,25 +181,25 @@ no_bytes [] e = refl
 no_bytes (b ∷ w) e = absurd (omega arith)
 
 module _ {l k : List ℕ} {n : ℕ} {w : List ℕ} (x : Noted false l k 0 n w) where
-  pub measured-room : n ≤ length k → Room true k 0 w
-  measured-room h q = let p = x.place in omega arith
+  pub measured_room : n ≤ length k → Room true k 0 w
+  measured_room h q = let p = x.place in omega arith
 
-  pub measured-nothing : n ≡ 0 → (true ≡ not (ltb (length l) (length w))) × Noted true l k 0 0 (fitting (length l) w)
-  measured-nothing h =
+  pub measured_nothing : n ≡ 0 → (true ≡ not (ltb (length l) (length w))) × Noted true l k 0 0 (fitting (length l) w)
+  measured_nothing h =
       let p = x.place in
       let z : w ≡ [] = no_bytes w (omega arith) in
       rw z (rw (le-ltb (length l) 0 (omega arith)) (refl, record { place = refl; bytes = x.bytes }))
 
-  pub measured-none : length k < n → (false ≡ not (ltb (length l) (length w))) × Noted true l k 0 0 (fitting (length l) w)
-  measured-none h =
+  pub measured_none : length k < n → (false ≡ not (ltb (length l) (length w))) × Noted true l k 0 0 (fitting (length l) w)
+  measured_none h =
       let p = x.place in
       let e = ap length x.bytes in
       let t : ltb (length l) (length w) ≡ true = lt-ltb (length l) (length w) (omega arith) in
       (rw t, record { place = rw t; bytes = rw (t, x.bytes) })
 
-  pub measured-all : n ≤ length k → {m : List ℕ} {r : ℕ} → Noted true k m 0 r w →
+  pub measured_all : n ≤ length k → {m : List ℕ} {r : ℕ} → Noted true k m 0 r w →
       (true ≡ not (ltb (length l) (length w))) × Noted true l m 0 n (fitting (length l) w)
-  measured-all h y =
+  measured_all h y =
       let p = x.place in
       let e = ap length x.bytes in
       let t : ltb (length l) (length w) ≡ false = le-ltb (length l) (length w) (omega arith) in

@@ -1,7 +1,7 @@
 -- The bytes of a trail, by each step of the code. For the functions of `putting` and `trail`.
--- In order: the bytes of events one after the other (trail-cons, trail-append), a SACL's (list-start, list-none, list-some), a rule's
--- (rule-passed, rule-applies, rule-empty), those of the rules ahead (rules-start, rules-end, rules-stop, rules-more), the whole trail
--- (all-events).
+-- In order: the bytes of events one after the other (trail_cons, trail_append), a SACL's (list_start, list_none, list_some), a rule's
+-- (rule_passed, rule_applies, rule_empty), those of the rules ahead (rules_start, rules_end, rules_stop, rules_more), the whole trail
+-- (all_events).
 -- Not here: which entry fires next, WalkingLaws; measuring and writing, NotingLaws. Assumes nothing.
 use Prim.Native.Nat.{ℕ, suc, ◌+◌, ◌-◌, ◌<◌, ◌≤◌}
 use mathlib.Core.Path.{◌≡◌, refl, sym, ap, ◌∙◌}
@@ -20,7 +20,7 @@ use Rattle.audit.specs.Trail.{event_bytes, trail_bytes}
 use Rattle.audit.specs.Walking.{fired_from}
 use Rattle.audit.specs.declared.firing.Sought.{Sought}
 use Rattle.audit.specs.declared.walk.Fired.{Fired}
-use Rattle.audit.proofs.WalkingLaws.{walk_none, walk-some}
+use Rattle.audit.proofs.WalkingLaws.{walk_none, walk_some}
 
 -- ---- one after the other
 
@@ -50,21 +50,21 @@ module _ (s : Sought) (ms : List Member) (h : Hits) where
     abbrev pub ListLeft : ℕ → ℕ → ℕ → List ℕ
     ListLeft n k at = trail_bytes (events_from s ms h source k (audits_at l (n - k) at))
 
-    pub list-start : (n : ℕ) → n ≡ u16_at l 4 → trail_bytes (events_in s ms h source l) ≡ ListLeft n 0 8
+    pub list_start : (n : ℕ) → n ≡ u16_at l 4 → trail_bytes (events_in s ms h source l) ≡ ListLeft n 0 8
     unfolding audits_of
-    list-start n e = ap (λ (m : ℕ). trail_bytes (events_from s ms h source 0 (audits_at l m 8))) (omega (arith, e))
+    list_start n e = ap (λ (m : ℕ). trail_bytes (events_from s ms h source 0 (audits_at l m 8))) (omega (arith, e))
 
     module _ (n k at : ℕ) (f : Fired) (is : f ≡ fired_from s ms h l (n - k) k at) where
-      pub list-none : f.found ≡ false → ListLeft n k at ≡ []
-      list-none t = trail_nil _ (walk_none s ms h l source n k at f is t)
+      pub list_none : f.found ≡ false → ListLeft n k at ≡ []
+      list_none t = trail_nil _ (walk_none s ms h l source n k at f is t)
 
-      pub list-some : f.found ≡ true →
+      pub list_some : f.found ≡ true →
           ListLeft n k at ≡ event_bytes (event source f.entry f.mask.0) ++ ListLeft n (f.entry + 1) f.next
-      list-some t = trail_cons _ _ _ (walk-some s ms h l source n k at f is t).1.1
+      list_some t = trail_cons _ _ _ (walk_some s ms h l source n k at f is t).1.1
 
       -- the walk goes on, among the entries
       pub list_on : f.found ≡ true → (k ≤ f.entry) × (f.entry < n)
-      list_on t = let r = walk-some s ms h l source n k at f is t in (r.0, r.1.0)
+      list_on t = let r = walk_some s ms h l source n k at f is t in (r.0, r.1.0)
 
   -- ---- a rule's events
 
@@ -74,16 +74,16 @@ module _ (s : Sought) (ms : List Member) (h : Hits) where
 
     -- t is what the code found of it
     module _ (t : Bool) (is : t ≡ applies_to ms h r) where
-      pub rule-passed : not t ≡ true → RuleBytes ≡ []
-      rule-passed q = trail_nil _ (rw (sym is ∙ not-true t q))
+      pub rule_passed : not t ≡ true → RuleBytes ≡ []
+      rule_passed q = trail_nil _ (rw (sym is ∙ not-true t q))
 
-      pub rule-applies : not t ≡ false → trail_bytes (events_in s ms h i r.sacl) ≡ RuleBytes
-      rule-applies q = rw (sym is ∙ not-false t q)
+      pub rule_applies : not t ≡ false → trail_bytes (events_in s ms h i r.sacl) ≡ RuleBytes
+      rule_applies q = rw (sym is ∙ not-false t q)
 
     -- a SACL of no bytes has no entries
-    pub rule-empty : r.sacl ≡ [] → RuleBytes ≡ []
+    pub rule_empty : r.sacl ≡ [] → RuleBytes ≡ []
     unfolding audits_of audits_at events_from u16_at
-    rule-empty e = trail_nil _ (rw e (go (applies_to ms h r)))
+    rule_empty e = trail_nil _ (rw e (go (applies_to ms h r)))
       where
         go : (t : Bool) → cond t (events_in s ms h i []) [] ≡ []
         go true = refl
@@ -96,23 +96,23 @@ module _ (s : Sought) (ms : List Member) (h : Hits) where
     abbrev pub RulesLeft : ℕ → ℕ → ℕ → List ℕ
     RulesLeft n k at = trail_bytes (rules_events s ms h (k + 1) (rules_by_lengths_at p (n - k) at))
 
-    pub rules-start : (n : ℕ) → n ≡ u32_at p 1 → trail_bytes (rules_events s ms h 1 (rules_by_lengths p)) ≡ RulesLeft n 0 5
-    rules-start n e = ap (λ (m : ℕ). trail_bytes (rules_events s ms h 1 (rules_by_lengths_at p m 5))) (omega (arith, e))
+    pub rules_start : (n : ℕ) → n ≡ u32_at p 1 → trail_bytes (rules_events s ms h 1 (rules_by_lengths p)) ≡ RulesLeft n 0 5
+    rules_start n e = ap (λ (m : ℕ). trail_bytes (rules_events s ms h 1 (rules_by_lengths_at p m 5))) (omega (arith, e))
 
     module _ (n k at : ℕ) where
-      pub rules-end : n ≤ k → RulesLeft n k at ≡ []
+      pub rules_end : n ≤ k → RulesLeft n k at ≡ []
       unfolding rules_by_lengths_at rules_events
-      rules-end q = let z : n - k ≡ 0 = omega arith in trail_nil _ (rw z)
+      rules_end q = let z : n - k ≡ 0 = omega arith in trail_nil _ (rw z)
 
       module _ (r : Rule) (q : k < n) (e : r ≡ rule_by_lengths p at) where
-        pub rules-stop : r.next ≡ 0 → RulesLeft n k at ≡ []
+        pub rules_stop : r.next ≡ 0 → RulesLeft n k at ≡ []
         unfolding rules_by_lengths_at rules_events
-        rules-stop f = let m : n - k ≡ suc (n - (k + 1)) = omega arith in trail_nil _ (rw (m, ← e, eq-eqb r.next 0 f))
+        rules_stop f = let m : n - k ≡ suc (n - (k + 1)) = omega arith in trail_nil _ (rw (m, ← e, eq-eqb r.next 0 f))
 
-        pub rules-more : (r.next ≡ 0 → ⊥) →
+        pub rules_more : (r.next ≡ 0 → ⊥) →
             RulesLeft n k at ≡ trail_bytes (rule_events s ms h (k + 1) (lists_by_lengths p r)) ++ RulesLeft n (k + 1) r.next
         unfolding rules_by_lengths_at rules_events
-        rules-more f =
+        rules_more f =
             let m : n - k ≡ suc (n - (k + 1)) = omega arith in
             let v : rules_events s ms h (k + 1) (rules_by_lengths_at p (n - k) at)
             ≡ rule_events s ms h (k + 1) (lists_by_lengths p r)
@@ -122,6 +122,6 @@ module _ (s : Sought) (ms : List Member) (h : Hits) where
 
   -- ---- the whole trail
 
-  pub all-events : (l : List ℕ) (rs : List Lists) → trail_bytes (events_of s ms h l rs)
+  pub all_events : (l : List ℕ) (rs : List Lists) → trail_bytes (events_of s ms h l rs)
       ≡ trail_bytes (events_in s ms h 0 l) ++ trail_bytes (rules_events s ms h 1 rs)
-  all-events l rs = trail_append _ _
+  all_events l rs = trail_append _ _

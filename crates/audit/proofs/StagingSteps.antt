@@ -17,7 +17,7 @@ use Rattle.audit.specs.Events.{audits_at, audits_of, events_from, masks_in, mask
 use Rattle.audit.specs.Walking.{fired_from}
 use Rattle.audit.specs.declared.firing.Sought.{Sought}
 use Rattle.audit.specs.declared.walk.Fired.{Fired}
-use Rattle.audit.proofs.WalkingLaws.{walk_none, walk-some}
+use Rattle.audit.proofs.WalkingLaws.{walk_none, walk_some}
 
 module _ (s : Sought) (ms : List Member) (h : Hits) where
   -- ---- the masks of the events ahead
@@ -40,7 +40,7 @@ module _ (s : Sought) (ms : List Member) (h : Hits) where
 
       ahead_some : f.found ≡ true → Ahead l n k at ≡ f.mask.0 ∷ Ahead l n (f.entry + 1) f.next
       unfolding masks_in
-      ahead_some e = ap masks_in (walk-some s ms h l 0 n k at f is e).1.1
+      ahead_some e = ap masks_in (walk_some s ms h l 0 n k at f is e).1.1
 
   -- ---- two SACLs in step
 
@@ -49,8 +49,8 @@ module _ (s : Sought) (ms : List Member) (h : Hits) where
     abbrev pub Apart : ℕ → ℕ → ℕ → ℕ → Bool
     Apart i j at place = not (same (Ahead one n i at) (Ahead two m j place))
 
-    pub apart-start : n ≡ u16_at one 4 → m ≡ u16_at two 4 → audits_differ s ms h one two ≡ Apart 0 0 8 8
-    apart-start e f = rw (ahead_start one n e, ahead_start two m f)
+    pub apart_start : n ≡ u16_at one 4 → m ≡ u16_at two 4 → audits_differ s ms h one two ≡ Apart 0 0 8 8
+    apart_start e f = rw (ahead_start one n e, ahead_start two m f)
 
     module _ (i j at place : ℕ) (f g : Fired) (first : f ≡ fired_from s ms h one (n - i) i at)
         (second : g ≡ fired_from s ms h two (m - j) j place) where
@@ -68,18 +68,18 @@ module _ (s : Sought) (ms : List Member) (h : Hits) where
         apart_more e = rw (ahead_some one n i at f first some, ahead_none two m j place g second e)
 
         module _ (other : g.found ≡ true) where
-          pub apart-mask : (f.mask.0 ≡ g.mask.0 → ⊥) → Apart i j at place ≡ true
+          pub apart_mask : (f.mask.0 ≡ g.mask.0 → ⊥) → Apart i j at place ≡ true
           unfolding same
-          apart-mask e =
+          apart_mask e =
               rw (
                 ahead_some one n i at f first some,
                 ahead_some two m j place g second other,
                 ne_eqb f.mask.0 g.mask.0 e,
               )
 
-          pub apart-on : f.mask.0 ≡ g.mask.0 → Apart i j at place ≡ Apart (f.entry + 1) (g.entry + 1) f.next g.next
+          pub apart_on : f.mask.0 ≡ g.mask.0 → Apart i j at place ≡ Apart (f.entry + 1) (g.entry + 1) f.next g.next
           unfolding same
-          apart-on e =
+          apart_on e =
               rw (
                 ahead_some one n i at f first some,
                 ahead_some two m j place g second other,
@@ -89,15 +89,15 @@ module _ (s : Sought) (ms : List Member) (h : Hits) where
   -- ---- one rule
 
   module _ (r : Lists) where
-    pub stages-none : there r.staged_sacl ≡ false → rule_stages s ms h r ≡ false
-    stages-none e = rw e
+    pub stages_none : there r.staged_sacl ≡ false → rule_stages s ms h r ≡ false
+    stages_none e = rw e
 
-    pub stages-passed : there r.staged_sacl ≡ true → applies_to ms h r ≡ false → rule_stages s ms h r ≡ false
-    stages-passed e f = rw (e, f)
+    pub stages_passed : there r.staged_sacl ≡ true → applies_to ms h r ≡ false → rule_stages s ms h r ≡ false
+    stages_passed e f = rw (e, f)
 
-    pub stages-applies : there r.staged_sacl ≡ true → applies_to ms h r ≡ true →
+    pub stages_applies : there r.staged_sacl ≡ true → applies_to ms h r ≡ true →
         rule_stages s ms h r ≡ audits_differ s ms h r.sacl r.staged_sacl
-    stages-applies e f = rw (e, f)
+    stages_applies e f = rw (e, f)
 
   -- ---- the walk over all rules
 
@@ -112,15 +112,15 @@ module _ (s : Sought) (ms : List Member) (h : Hits) where
       left_end l = let z : m - k ≡ 0 = omega arith in rw z
 
       module _ (r : Rule) (more : k < m) (is : r ≡ rule_by_lengths p at) where
-        pub left-stop : r.next ≡ 0 → Left (m - k) at ≡ false
+        pub left_stop : r.next ≡ 0 → Left (m - k) at ≡ false
         unfolding rules_by_lengths_at stages_audit
-        left-stop z = let n : m - k ≡ suc (m - (k + 1)) = omega arith in rw (n, ← is, eq-eqb r.next 0 z)
+        left_stop z = let n : m - k ≡ suc (m - (k + 1)) = omega arith in rw (n, ← is, eq-eqb r.next 0 z)
 
         module _ (some : r.next ≡ 0 → ⊥) where
-          pub left-stages : rule_stages s ms h (lists_by_lengths p r) ≡ true → Left (m - k) at ≡ true
+          pub left_stages : rule_stages s ms h (lists_by_lengths p r) ≡ true → Left (m - k) at ≡ true
           unfolding rules_by_lengths_at stages_audit
-          left-stages t = let n : m - k ≡ suc (m - (k + 1)) = omega arith in rw (n, ← is, ne_eqb r.next 0 some, t)
+          left_stages t = let n : m - k ≡ suc (m - (k + 1)) = omega arith in rw (n, ← is, ne_eqb r.next 0 some, t)
 
-          pub left-more : rule_stages s ms h (lists_by_lengths p r) ≡ false → Left (m - k) at ≡ Left (m - (k + 1)) r.next
+          pub left_more : rule_stages s ms h (lists_by_lengths p r) ≡ false → Left (m - k) at ≡ Left (m - (k + 1)) r.next
           unfolding rules_by_lengths_at stages_audit
-          left-more t = let n : m - k ≡ suc (m - (k + 1)) = omega arith in rw (n, ← is, ne_eqb r.next 0 some, t)
+          left_more t = let n : m - k ≡ suc (m - (k + 1)) = omega arith in rw (n, ← is, ne_eqb r.next 0 some, t)

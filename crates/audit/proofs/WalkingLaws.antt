@@ -1,7 +1,7 @@
 -- The walk over a SACL, from one entry that fires to the next.
--- In order: the steps of the walk, for `next_fired` (fired-end, fired-stop, fired-here, fired-on); the events of the entries ahead, by the same
--- steps (events-..); the events by the walk, for its callers (fired-none, fired-some; of n entries in all walk_none,
--- walk-some). Assumes nothing.
+-- In order: the steps of the walk, for `next_fired` (fired_end, fired_stop, fired_here, fired_on); the events of the entries ahead, by the same
+-- steps (events-..); the events by the walk, for its callers (fired_none, fired_some; of n entries in all walk_none,
+-- walk_some). Assumes nothing.
 use Prim.Native.Nat.{ℕ, zero, suc, ◌+◌, ◌-◌, ◌<◌, ◌≤◌}
 use mathlib.Core.Path.{◌≡◌, refl, sym, ap, ◌∙◌}
 use mathlib.Core.List.{List, [], ◌∷◌}
@@ -21,25 +21,25 @@ module _ (s : Sought) (ms : List Member) (h : Hits) (l : List ℕ) where
   -- ---- the steps of the walk
 
   module _ (n k at : ℕ) where
-    pub fired-end : n ≤ k → fired_from s ms h l (n - k) k at ≡ none_fired
+    pub fired_end : n ≤ k → fired_from s ms h l (n - k) k at ≡ none_fired
     unfolding fired_from
-    fired-end e = let z : n - k ≡ 0 = omega arith in rw z
+    fired_end e = let z : n - k ≡ 0 = omega arith in rw z
 
     -- from the entry that the code read
     module _ (x : Spot) (more : k < n) (is : x ≡ spot_at l at) where
-      pub fired-stop : x.next ≡ 0 → fired_from s ms h l (n - k) k at ≡ none_fired
+      pub fired_stop : x.next ≡ 0 → fired_from s ms h l (n - k) k at ≡ none_fired
       unfolding fired_from
-      fired-stop z = let e : n - k ≡ suc (n - (k + 1)) = omega arith in rw (e, ← is, eq-eqb x.next 0 z)
+      fired_stop z = let e : n - k ≡ suc (n - (k + 1)) = omega arith in rw (e, ← is, eq-eqb x.next 0 z)
 
       module _ (some : x.next ≡ 0 → ⊥) where
-        pub fired-here : fires s ms h (audit_of l x) ≡ true → fired_from s ms h l (n - k) k at ≡ fired_at k x
+        pub fired_here : fires s ms h (audit_of l x) ≡ true → fired_from s ms h l (n - k) k at ≡ fired_at k x
         unfolding fired_from
-        fired-here f = let e : n - k ≡ suc (n - (k + 1)) = omega arith in rw (e, ← is, ne_eqb x.next 0 some, f)
+        fired_here f = let e : n - k ≡ suc (n - (k + 1)) = omega arith in rw (e, ← is, ne_eqb x.next 0 some, f)
 
-        pub fired-on : fires s ms h (audit_of l x) ≡ false →
+        pub fired_on : fires s ms h (audit_of l x) ≡ false →
             fired_from s ms h l (n - k) k at ≡ fired_from s ms h l (n - (k + 1)) (k + 1) x.next
         unfolding fired_from
-        fired-on f = let e : n - k ≡ suc (n - (k + 1)) = omega arith in rw (e, ← is, ne_eqb x.next 0 some, f)
+        fired_on f = let e : n - k ≡ suc (n - (k + 1)) = omega arith in rw (e, ← is, ne_eqb x.next 0 some, f)
 
   -- ---- the events of the entries ahead
 
@@ -118,12 +118,12 @@ module _ (s : Sought) (ms : List Member) (h : Hits) (l : List ℕ) where
           ),
         )
 
-    some-step :
+    some_step :
         ((fired_from s ms h l m (k + 1) (spot_at l at).next).found ≡ true →
         Met source m (k + 1) rest (fired_from s ms h l m (k + 1) (spot_at l at).next)) →
         (fired_from s ms h l (suc m) k at).found ≡ true → Met source (suc m) k all (fired_from s ms h l (suc m) k at)
     unfolding fired_from
-    some-step ih e = go (eqb (spot_at l at).next 0) refl (fires s ms h (audit_of l (spot_at l at))) refl
+    some_step ih e = go (eqb (spot_at l at).next 0) refl (fires s ms h (audit_of l (spot_at l at))) refl
       where
         go : (b : Bool) → eqb (spot_at l at).next 0 ≡ b → (c : Bool) → fires s ms h (audit_of l (spot_at l at)) ≡ c →
             Met source (suc m) k all (fired_from s ms h l (suc m) k at)
@@ -144,33 +144,33 @@ module _ (s : Sought) (ms : List Member) (h : Hits) (l : List ℕ) where
   -- ---- the events by the walk
 
   -- none is left where the walk finds none
-  pub fired-none : (source m k at : ℕ) → (fired_from s ms h l m k at).found ≡ false →
+  pub fired_none : (source m k at : ℕ) → (fired_from s ms h l m k at).found ≡ false →
       events_from s ms h source k (audits_at l m at) ≡ []
   unfolding audits_at events_from
-  fired-none source zero k at e = refl
-  fired-none source (suc m) k at e = none_step source m k at (fired-none source m (k + 1) (spot_at l at).next) e
+  fired_none source zero k at e = refl
+  fired_none source (suc m) k at e = none_step source m k at (fired_none source m (k + 1) (spot_at l at).next) e
 
   -- else what it finds is the first, and the others are those from the place after
-  pub fired-some : (source m k at : ℕ) → (fired_from s ms h l m k at).found ≡ true →
+  pub fired_some : (source m k at : ℕ) → (fired_from s ms h l m k at).found ≡ true →
       Met source m k (events_from s ms h source k (audits_at l m at)) (fired_from s ms h l m k at)
   unfolding fired_from
-  fired-some source zero k at e = let z : ◌≡◌ {A = ℕ} 0 1 = cc in absurd (omega arith)
-  fired-some source (suc m) k at e = some-step source m k at (fired-some source m (k + 1) (spot_at l at).next) e
+  fired_some source zero k at e = let z : ◌≡◌ {A = ℕ} 0 1 = cc in absurd (omega arith)
+  fired_some source (suc m) k at e = some_step source m k at (fired_some source m (k + 1) (spot_at l at).next) e
 
   -- the same, of n entries in all, from what the code found
   module _ (source n k at : ℕ) (f : Fired) (is : f ≡ fired_from s ms h l (n - k) k at) where
     pub walk_none : f.found ≡ false → events_from s ms h source k (audits_at l (n - k) at) ≡ []
-    walk_none e = fired-none source (n - k) k at (sym (ap (λ (y : Fired). y.found) is) ∙ e)
+    walk_none e = fired_none source (n - k) k at (sym (ap (λ (y : Fired). y.found) is) ∙ e)
 
-    pub walk-some : f.found ≡ true →
+    pub walk_some : f.found ≡ true →
         (k ≤ f.entry)
         × ((f.entry < n)
         × (events_from s ms h source k (audits_at l (n - k) at)
         ≡ event source f.entry f.mask.0
         ∷ events_from s ms h source (f.entry + 1) (audits_at l (n - (f.entry + 1)) f.next)))
-    walk-some e =
+    walk_some e =
         let r : Met source (n - k) k (events_from s ms h source k (audits_at l (n - k) at)) f =
-        rw is (fired-some source (n - k) k at (sym (ap (λ (y : Fired). y.found) is) ∙ e)) in
+        rw is (fired_some source (n - k) k at (sym (ap (λ (y : Fired). y.found) is) ∙ e)) in
         let a : k ≤ f.entry = r.0 in
         let b : f.entry < k + (n - k) = r.1.0 in
         let m : k + (n - k) - (f.entry + 1) ≡ n - (f.entry + 1) = omega arith in (

@@ -1,6 +1,6 @@
 -- The bits of a mask. The index:
--- the bit of an operation: and-bit or-bit differ-bit flip-bit ones_bit zero_bit; of a half: bit-half bit-zero; past the width: high_bit.
--- A mask is its bits: ext (k bits), mask-ext (32 bits), bits-ext (any). flip-lt.
+-- the bit of an operation: and_bit or_bit differ_bit flip_bit ones_bit zero_bit; of a half: bit_half bit_zero; past the width: high_bit.
+-- A mask is its bits: ext (k bits), mask_ext (32 bits), bits_ext (any). flip_lt.
 -- Not here: laws of masks, BitsLaws. Assumes nothing.
 use Prim.Native.Nat.{ℕ, zero, suc, ◌+◌, ◌-◌, ◌*◌, ◌/◌, ◌%◌, ◌^◌, ◌<◌, ◌≤◌, min, max}
 use mathlib.Core.Path.{◌≡◌, refl, sym, ap, ◌∙◌}

@@ -1,9 +1,9 @@
 -- Laws of masks, by their bits. The index:
--- operations: and_assoc or_assoc and-or-distrib flip-flip split and-flip-apart.
--- Within: within-refl within-trans and-within-l and-within-r zero-within and_mono or-within-l or-within-r or-within; as a test: within-and and-within
--- covers-within within-covers.
--- has: has-false has-true not-has no-common has-of-bit.
--- Not here: the bit of an operation, mask-ext: BitLaws. and_comm or-comm xor-comm and-self or-self and-zero-l and_le_l and-lt or_lt
+-- operations: and_assoc or_assoc and_or_distrib flip_flip split and_flip_apart.
+-- Within: within_refl within_trans and_within_l and_within_r zero_within and_mono or_within_l or_within_r or_within; as a test: within_and and_within
+-- covers_within within_covers.
+-- has: has_false has_true not_has no_common has_of_bit.
+-- Not here: the bit of an operation, mask_ext: BitLaws. and_comm or-comm xor-comm and-self or-self and-zero-l and_le_l and-lt or_lt
 -- xor-lt: lib.Bits, of the same operations. Assumes nothing.
 use Prim.Native.Nat.{ℕ, ◌^◌, ◌<◌}
 use mathlib.Core.Path.{◌≡◌, refl, sym, ap, ◌∙◌}

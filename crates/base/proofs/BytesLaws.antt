@@ -1,8 +1,8 @@
 -- Laws of lists of bytes. The index:
--- same: same_refl same-eq eq-same same-sym same_length same-ne same-false-of-ne same-false-of-length; from a place: same-hit same-miss
+-- same: same_refl same_eq eq_same same_sym same_length same_ne same_false_of_ne same_false_of_length; from a place: same_hit same_miss
 -- same_end.
--- Parts: part-append length_part part_at part-of-drop part-whole part-empty part-front part-short part-cons.
--- Bytes: bytes-append bytes_take bytes_drop bytes-part bytes-reverse, byte-lt bytes-of-lt.
+-- Parts: part_append length_part part_at part_of_drop part_whole part_empty part_front part_short part_cons.
+-- Bytes: bytes_append bytes_take bytes_drop bytes_part bytes_reverse, byte_lt bytes_of_lt.
 -- Not here: numbers of two, four and six bytes, WordsLaws; what is written of a number, ValueLaws. Assumes nothing.
 use Prim.Native.Nat.{ℕ, zero, suc, ◌+◌, ◌-◌, ◌<◌, ◌≤◌}
 use mathlib.Core.Path.{◌≡◌, refl, sym, ap, ap₂, ◌∙◌}
@@ -65,13 +65,13 @@ same_sym a b = go (same a b) refl
 -- ---- same, byte by byte from a place
 
 module _ (a b : List ℕ) (i : ℕ) (ha : i < length a) (hb : i < length b) where
-  pub same-hit : get_or a i 0 ≡ get_or b i 0 → same (drop i a) (drop i b) ≡ same (drop (i + 1) a) (drop (i + 1) b)
+  pub same_hit : get_or a i 0 ≡ get_or b i 0 → same (drop i a) (drop i b) ≡ same (drop (i + 1) a) (drop (i + 1) b)
   unfolding same
-  same-hit e = rw (add-one, drop-cons a i 0, drop-cons b i 0, eq-eqb (get_or a i 0) (get_or b i 0) e)
+  same_hit e = rw (add-one, drop-cons a i 0, drop-cons b i 0, eq-eqb (get_or a i 0) (get_or b i 0) e)
 
-  pub same-miss : (get_or a i 0 ≡ get_or b i 0 → ⊥) → same (drop i a) (drop i b) ≡ false
+  pub same_miss : (get_or a i 0 ≡ get_or b i 0 → ⊥) → same (drop i a) (drop i b) ≡ false
   unfolding same
-  same-miss e = rw (drop-cons a i 0, drop-cons b i 0, ne_eqb (get_or a i 0) (get_or b i 0) e)
+  same_miss e = rw (drop-cons a i 0, drop-cons b i 0, ne_eqb (get_or a i 0) (get_or b i 0) e)
 
 pub same_end : (a b : List ℕ) (i : ℕ) → length a ≤ i → length b ≤ i → same (drop i a) (drop i b) ≡ true
 unfolding same

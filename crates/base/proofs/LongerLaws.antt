@@ -1,7 +1,7 @@
 -- A number of more than one byte, group by group: for the loop of `longer`. Over every width up to 64 bits.
--- In order: groups side by side (beside-lt shifted beside-fits within-lt group-lt), groups above groups (above-above); what the groups
--- read so far have to do with the number (Among), from the first on (among_first among_next) to each end (among-cut among-wide
--- among-last); a number of five groups at once (five-groups); and what a number of more than one byte is at least (longer-found).
+-- In order: groups side by side (beside_lt shifted beside_fits within_lt group_lt), groups above groups (above_above); what the groups
+-- read so far have to do with the number (Among), from the first on (among_first among_next) to each end (among_cut among_wide
+-- among_last); a number of five groups at once (five_groups); and what a number of more than one byte is at least (longer_found).
 -- Assumes nothing.
 use Prim.Native.Nat.{ℕ, suc, ◌+◌, ◌-◌, ◌*◌, ◌%◌, ◌^◌, ◌<◌, ◌≤◌}
 use mathlib.Core.Path.{◌≡◌, refl, sym, ap, ap₂, ◌∙◌}
@@ -19,7 +19,7 @@ use Rattle.base.specs.Bytes.{Read}
 use Rattle.base.specs.Bytes.Read.{none, some}
 use Rattle.base.specs.Sevens.{more, groups, within, number, num_of}
 use Rattle.base.specs.declared.sevens.Num.{Num}
-use Rattle.base.proofs.SevensSteps.{within_fits, above, above_some, number_out, number-last, number-long, number-carry}
+use Rattle.base.proofs.SevensSteps.{within_fits, above, above_some, number_out, number_last, number_long, number_carry}
 use Rattle.base.proofs.SevensSteps.{groups_bounds, number_found}
 
 -- ---- groups side by side
@@ -37,8 +37,8 @@ module _ (bits k w : ℕ) (narrow : bits ≤ 64) (room : k < bits) (high : w < 2
   pub shifted : (w * 2 ^ k) % 2 ^ 64 ≡ w * 2 ^ k
   shifted = shl_exact (bits - k) k 64 high (omega arith)
 
-  pub beside-fits : (v : ℕ) → v < 2 ^ k → v + (w * 2 ^ k) % 2 ^ 64 < 2 ^ 64
-  beside-fits v low =
+  pub beside_fits : (v : ℕ) → v < 2 ^ k → v + (w * 2 ^ k) % 2 ^ 64 < 2 ^ 64
+  beside_fits v low =
       let e : k + (bits - k) ≡ bits = omega arith in
       let b : v + w * 2 ^ k < 2 ^ (k + (bits - k)) = beside_lt v w k (bits - k) low high in
       let c : v + w * 2 ^ k < 2 ^ bits = rw e at b in
@@ -86,29 +86,29 @@ pub record Among (bits : ℕ) (s : List ℕ) (at v k p : ℕ) : Type 0 where
 pub among_first : (bits : ℕ) (s : List ℕ) (at b : ℕ) → b ≡ get_or s at 0 → at < length s → 128 ≤ b → b < 256 → 7 < bits →
     Among bits s at (b - 128) 7 (at + 1)
 among_first bits s at b is inside h h' k =
-    rw is (record { low = omega arith; told = number-carry bits s at inside (omega arith) (omega arith) k })
+    rw is (record { low = omega arith; told = number_carry bits s at inside (omega arith) (omega arith) k })
 
 module _ (bits : ℕ) (s : List ℕ) (at v k p : ℕ) (among : Among bits s at v k p) where
-  pub among-cut : length s ≤ p → num_of none ≡ num_of (number bits s at)
+  pub among_cut : length s ≤ p → num_of none ≡ num_of (number bits s at)
   unfolding num_of
-  among-cut h = sym (among.told ∙ ap (λ r. above v k (num_of r)) (number_out (bits - k) s p h))
+  among_cut h = sym (among.told ∙ ap (λ r. above v k (num_of r)) (number_out (bits - k) s p h))
 
   module _ (b : ℕ) (is : b ≡ get_or s p 0) (inside : p < length s) where
-    pub among-wide : 128 ≤ b → bits - k ≤ 7 → num_of none ≡ num_of (number bits s at)
+    pub among_wide : 128 ≤ b → bits - k ≤ 7 → num_of none ≡ num_of (number bits s at)
     unfolding num_of
-    among-wide h l = sym (among.told ∙ ap (λ r. above v k (num_of r)) (number-long (bits - k) s p inside (omega arith) l))
+    among_wide h l = sym (among.told ∙ ap (λ r. above v k (num_of r)) (number_long (bits - k) s p inside (omega arith) l))
 
     -- r is the answer for the last group
-    pub among-last : b < 128 → (r : Num) → r ≡ num_of (within (bits - k) (some b (p + 1))) → above v k r ≡ num_of (number bits s at)
-    among-last h r e =
-        let n : number (bits - k) s p ≡ within (bits - k) (some (get_or s p 0) (p + 1)) = number-last (bits - k) s p inside (omega arith) in
+    pub among_last : b < 128 → (r : Num) → r ≡ num_of (within (bits - k) (some b (p + 1))) → above v k r ≡ num_of (number bits s at)
+    among_last h r e =
+        let n : number (bits - k) s p ≡ within (bits - k) (some (get_or s p 0) (p + 1)) = number_last (bits - k) s p inside (omega arith) in
         ap (above v k) (e ∙ ap (λ (x : ℕ). num_of (within (bits - k) (some x (p + 1)))) is ∙ sym (ap num_of n)) ∙ sym among.told
 
     pub among_next : 128 ≤ b → b < 256 → 7 < bits - k → Among bits s at (v + (b - 128) * 2 ^ k) (k + 7) (p + 1)
     among_next h h' l =
         let e : bits - k - 7 ≡ bits - (k + 7) = omega arith in
         let c : num_of (number (bits - k) s p) ≡ above (b - 128) 7 (num_of (number (bits - k - 7) s (p + 1))) =
-        rw is (number-carry (bits - k) s p inside (omega arith) (omega arith) l) in
+        rw is (number_carry (bits - k) s p inside (omega arith) (omega arith) l) in
         let a = above_above v k (b - 128) (num_of (number (bits - k - 7) s (p + 1))) in
         let f = ap (λ (n : ℕ). above (v + (b - 128) * 2 ^ k) (k + 7) (num_of (number n s (p + 1)))) e in
         record { low = beside_lt v (b - 128) k 7 among.low (omega arith); told = among.told ∙ ap (above v k) c ∙ a ∙ f }
@@ -139,13 +139,13 @@ module _ (s : List ℕ) (at : ℕ) (inside : at + 5 ≤ length s) (a b c d e : �
         let three = among_next 32 s at _ _ _ two c (isc ∙ ap (λ (p : ℕ). get_or s p 0) (sym second)) (omega arith) lc hc (omega arith) in
         among_next 32 s at _ _ _ three d (isd ∙ ap (λ (p : ℕ). get_or s p 0) (sym third)) (omega arith) ld hd (omega arith)
 
-    pub five-groups : (e ≡ 0 → ⊥) → e ≤ 15 → (v : ℕ) →
+    pub five_groups : (e ≡ 0 → ⊥) → e ≤ 15 → (v : ℕ) →
         v ≡ a - 128 + 128 * (b - 128) + 16384 * (c - 128) + 2097152 * (d - 128) + 268435456 * e →
         num_of (number 32 s at) ≡ num_of (some v (at + 5))
     unfolding num_of
-    five-groups nonzero few v is =
+    five_groups nonzero few v is =
         let r : Num = record { ok = true; value = e; next = at + 1 + 1 + 1 + 1 + 1 } in
-        let last = among-last 32 s at lower (7 + 7 + 7 + 7) (at + 1 + 1 + 1 + 1) four e (ise ∙ ap (λ (p : ℕ). get_or s p 0) (sym fourth))
+        let last = among_last 32 s at lower (7 + 7 + 7 + 7) (at + 1 + 1 + 1 + 1) four e (ise ∙ ap (λ (p : ℕ). get_or s p 0) (sym fourth))
         (omega arith) (omega arith) r
         (sym (within_fits 4 e (at + 1 + 1 + 1 + 1 + 1) (omega arith))) in
         sym last ∙ above_some lower (7 + 7 + 7 + 7) r nonzero

@@ -1,6 +1,6 @@
 -- Bytes at a place of a list. `Stands s at w q` says that w stands there and q after it; `Formed s at n w` that the bytes up to n are w.
--- In order: what stands (stands-left stands-end stands-right stands-whole), places after a sequence (length_two length_three
--- length-four), what was read (formed-none formed-append formed-same). Assumes nothing.
+-- In order: what stands (stands_left stands_end stands_right stands_whole), places after a sequence (length_two length_three
+-- length_four), what was read (formed_none formed_append formed_same). Assumes nothing.
 use Prim.Native.Nat.{ℕ, ◌+◌, ◌≤◌}
 use mathlib.Core.Path.{◌≡◌, sym, ap, ap₂, ◌∙◌}
 use mathlib.Core.List.{List, [], ◌++◌, append_assoc, append-nil}

@@ -1,5 +1,5 @@
 -- Taking a reading apart. In order: two readings that went through (bound), a test that let one through (allowed, passed), equal readings
--- (moved), a number as the code answers it (num-none, num-some). Assumes nothing.
+-- (moved), a number as the code answers it (num_none, num_some). Assumes nothing.
 use Prim.Native.Nat.{ℕ}
 use mathlib.Core.Path.{◌≡◌, refl, sym, ap, ◌∙◌}
 use mathlib.Core.Bool.{Bool, true, false, cond}

@@ -1,8 +1,8 @@
 -- Laws of numbers in sevens, over every width up to 64 bits. The index:
--- what is read is bounded: number_lt number-bounds.
--- What is written: sevens-last sevens-more packed-short, packed-length (by the count of groups), packed-length-64 -48 -32,
--- packed-pos packed-bytes.
--- Read back: read-back number-of-drop number-back. One form only: one_form number-form number-unique.
+-- what is read is bounded: number_lt number_bounds.
+-- What is written: sevens_last sevens_more packed_short, packed_length (by the count of groups), packed_length_64 -48 -32,
+-- packed_pos packed_bytes.
+-- Read back: read_back number_of_drop number_back. One form only: one_form number_form number_unique.
 -- Not here: what a number is by its first byte, SevensSteps. Assumes nothing.
 use Prim.Native.Nat.{ℕ, zero, suc, ◌+◌, ◌-◌, ◌*◌, ◌/◌, ◌%◌, ◌^◌, ◌<◌, ◌≤◌}
 use mathlib.Core.Path.{◌≡◌, refl, sym, ap, ap₂, ◌∙◌}
@@ -156,21 +156,21 @@ module _ (bits : ℕ) (narrow : bits ≤ 64) where
   wide_enough : (v : ℕ) → v < 2 ^ bits → v < 128 ^ 10
   wide_enough v h = let m : 2 ^ bits ≤ 2 ^ 64 = pow_mono {i = bits} {j = 64} narrow in omega arith
 
-  pub number-of-drop : (s q : List ℕ) (at v : ℕ) → v < 2 ^ bits → drop at s ≡ packed v ++ q →
+  pub number_of_drop : (s q : List ℕ) (at v : ℕ) → v < 2 ^ bits → drop at s ≡ packed v ++ q →
       number bits s at ≡ some v (at + length (packed v))
   unfolding number within placed
-  number-of-drop s q at v h d = rw (d, read_back 9 v q (wide_enough v h), lt-ltb v (2 ^ bits) h)
+  number_of_drop s q at v h d = rw (d, read_back 9 v q (wide_enough v h), lt-ltb v (2 ^ bits) h)
 
-  pub number-back : (p q : List ℕ) (v : ℕ) → v < 2 ^ bits →
+  pub number_back : (p q : List ℕ) (v : ℕ) → v < 2 ^ bits →
       number bits (p ++ (packed v ++ q)) (length p) ≡ some v (length p + length (packed v))
-  number-back p q v h = number-of-drop (p ++ (packed v ++ q)) q (length p) v h (drop-append_seam p (packed v ++ q))
+  number_back p q v h = number_of_drop (p ++ (packed v ++ q)) q (length p) v h (drop-append_seam p (packed v ++ q))
 
-  pub number-form : (s : List ℕ) (at v n : ℕ) → T (are_bytes s) → number bits s at ≡ some v n → part s at n ≡ packed v
-  number-form s at v n b e =
+  pub number_form : (s : List ℕ) (at v n : ℕ) → T (are_bytes s) → number bits s at ≡ some v n → part s at n ≡ packed v
+  number_form s at v n b e =
       let f = number_found bits s at v n e in
       one_form (drop at s) 9 v (n - at) (bytes_drop at s b) (wide_enough v f.fits) f.told
 
-  pub number-unique : (s t : List ℕ) (v : ℕ) → T (are_bytes s) → T (are_bytes t) →
+  pub number_unique : (s t : List ℕ) (v : ℕ) → T (are_bytes s) → T (are_bytes t) →
       number bits s 0 ≡ some v (length s) → number bits t 0 ≡ some v (length t) → s ≡ t
-  number-unique s t v b c e f =
-      sym (part_whole s) ∙ number-form s 0 v (length s) b e ∙ sym (number-form t 0 v (length t) c f) ∙ part_whole t
+  number_unique s t v b c e f =
+      sym (part_whole s) ∙ number_form s 0 v (length s) b e ∙ sym (number_form t 0 v (length t) c f) ∙ part_whole t

@@ -1,8 +1,8 @@
 -- What the number at a place is, by the byte that stands there. Over every width; for `number_at`, for the loop of `longer` (LongerLaws),
 -- and for what is written and read back (SevensLaws).
--- In order: within the width (within-fits within-wide), a group below what follows (long-more carry-more), the number at a place by its
--- first byte (above above-none above-some number-out number-last number-alone number-long number-carry), what a number that was found says
--- (number-found), and the bounds of a reading as the code answers it (num-bounds num-answer).
+-- In order: within the width (within_fits within_wide), a group below what follows (long_more carry_more), the number at a place by its
+-- first byte (above above_none above_some number_out number_last number_alone number_long number_carry), what a number that was found says
+-- (number_found), and the bounds of a reading as the code answers it (num_bounds num_answer).
 -- Assumes nothing.
 use Prim.Native.Nat.{ℕ, suc, ◌+◌, ◌-◌, ◌*◌, ◌^◌, ◌<◌, ◌≤◌}
 use mathlib.Core.Path.{◌≡◌, refl, sym, ap, ap₂, ◌∙◌}
@@ -102,26 +102,26 @@ unfolding number placed within groups
 number_out bits s at h = rw (drop_of_length-le s h)
 
 module _ (bits : ℕ) (s : List ℕ) (at : ℕ) (inside : at < length s) where
-  pub number-last : get_or s at 0 < 128 → number bits s at ≡ within bits (some (get_or s at 0) (at + 1))
+  pub number_last : get_or s at 0 < 128 → number bits s at ≡ within bits (some (get_or s at 0) (at + 1))
   unfolding number groups
-  number-last h = rw (drop-cons s at 0, lt-ltb (get_or s at 0) 128 h) (placed_within bits at (get_or s at 0) 1)
+  number_last h = rw (drop-cons s at 0, lt-ltb (get_or s at 0) 128 h) (placed_within bits at (get_or s at 0) 1)
 
   -- a number of one byte
-  pub number-alone : get_or s at 0 < 128 → 7 ≤ bits → number bits s at ≡ some (get_or s at 0) (at + 1)
+  pub number_alone : get_or s at 0 < 128 → 7 ≤ bits → number bits s at ≡ some (get_or s at 0) (at + 1)
   unfolding within
-  number-alone h k =
+  number_alone h k =
       let p : 2 ^ 7 ≤ 2 ^ bits = pow_mono k in
-      number-last h ∙ rw (lt-ltb (get_or s at 0) (2 ^ bits) (omega arith))
+      number_last h ∙ rw (lt-ltb (get_or s at 0) (2 ^ bits) (omega arith))
 
-  pub number-long : 128 ≤ get_or s at 0 → bits ≤ 7 → number bits s at ≡ none
+  pub number_long : 128 ≤ get_or s at 0 → bits ≤ 7 → number bits s at ≡ none
   unfolding number groups placed
-  number-long h k =
+  number_long h k =
       rw (drop-cons s at 0, le-ltb (get_or s at 0) 128 h, long_more bits (get_or s at 0 - 128) (groups (drop (suc at) s)) k)
 
-  pub number-carry : 128 ≤ get_or s at 0 → get_or s at 0 < 256 → 7 < bits →
+  pub number_carry : 128 ≤ get_or s at 0 → get_or s at 0 < 256 → 7 < bits →
       num_of (number bits s at) ≡ above (get_or s at 0 - 128) 7 (num_of (number (bits - 7) s (at + 1)))
   unfolding number groups
-  number-carry h h' k =
+  number_carry h h' k =
       let e : drop at s ≡ get_or s at 0 ∷ drop (at + 1) s = rw (add-one, drop-cons s at 0) in
       rw (e, le-ltb (get_or s at 0) 128 h, carry_more bits (get_or s at 0 - 128) (groups (drop (at + 1) s)) (omega arith) k)
       (placed_more at (get_or s at 0 - 128) (within (bits - 7) (groups (drop (at + 1) s))))

@@ -1,6 +1,6 @@
 -- Laws of numbers written in n bytes, lowest first and highest first. The index:
--- length-little little-bytes length-big big-bytes; a low and a high part: little-add little-eight; the value of bytes: value-little
--- little-value big-reverse; the bytes at a place one by one: part_bytes.
+-- length_little little_bytes length_big big_bytes; a low and a high part: little_add little_eight; the value of bytes: value_little
+-- little_value big_reverse; the bytes at a place one by one: part_bytes.
 -- Not here: numbers of two, four and six bytes at a place, WordsLaws. Assumes nothing.
 use Prim.Native.Nat.{ℕ, zero, suc, ◌+◌, ◌*◌, ◌/◌, ◌%◌, ◌^◌, ◌<◌, ◌≤◌}
 use mathlib.Core.Path.{◌≡◌, refl, sym, ap, ap₂, ◌∙◌}

@@ -1,7 +1,7 @@
 -- Writing at a place, one thing after the other. No contract of a caller cites this file.
--- In order: stores one after the other (sets-append), from the front (sets-front, buffer-room), a copy (copy_more, copy_done), the bytes of
--- a number, lowest first (sets-little-none, sets-little-more), what was written (wrote_none, wrote-same, wrote-append) and the room for it
--- (wrote-long, room-first, room_after_lem), the groups of a number that are still to be written (Writes), what a loop has left (Left).
+-- In order: stores one after the other (sets_append), from the front (sets_front, buffer_room), a copy (copy_more, copy_done), the bytes of
+-- a number, lowest first (sets_little_none, sets_little_more), what was written (wrote_none, wrote_same, wrote_append) and the room for it
+-- (wrote_long, room_first, room_after_lem), the groups of a number that are still to be written (Writes), what a loop has left (Left).
 -- Assumes nothing.
 use Prim.Native.Nat.{ℕ, zero, suc, ◌+◌, ◌-◌, ◌*◌, ◌/◌, ◌%◌, ◌^◌, ◌<◌, ◌≤◌}
 use mathlib.Core.Path.{◌≡◌, refl, sym, ap, ap₂, ◌∙◌}
@@ -127,8 +127,8 @@ sevens_some (suc k) n = go (ltb n 128)
 
 module _ {out₀ : List ℕ} {o v : ℕ} {out : List ℕ} {n i : ℕ} where
   -- one more place is free
-  pub writes-room : Writes out₀ o v out n i → i < o + length (packed v)
-  writes-room x = let l = sevens_some x.left n in let c = x.count in omega arith
+  pub writes_room : Writes out₀ o v out n i → i < o + length (packed v)
+  writes_room x = let l = sevens_some x.left n in let c = x.count in omega arith
 
   pub writes_more : Writes out₀ o v out n i → 128 ≤ n → Writes out₀ o v (set out i (128 + n % 128)) (n / 128) (i + 1)
   writes_more x h = go x.left x.small x.bytes x.count
@@ -147,8 +147,8 @@ module _ {out₀ : List ℕ} {o v : ℕ} {out : List ℕ} {n i : ℕ} where
             count = omega arith;
           }
 
-  pub writes-last : Writes out₀ o v out n i → n < 128 → Wrote out₀ (set out i n) o (i + 1) (packed v)
-  writes-last x h =
+  pub writes_last : Writes out₀ o v out n i → n < 128 → Wrote out₀ (set out i n) o (i + 1) (packed v)
+  writes_last x h =
       let e = sevens_last x.left n h in
       let l = ap length e in
       let c = x.count in
@@ -167,11 +167,11 @@ pub left_start : (l : List ℕ) (o : ℕ) (w : List ℕ) → Left l o w l o w
 left_start l o w = record { bytes = refl; count = refl }
 
 module _ {l : List ℕ} {o : ℕ} {w l' : List ℕ} {m : ℕ} {v : List ℕ} (x : Left l o w l' m v) where
-  pub left-long : length l' ≡ length l
-  left-long = sym (length-sets l' m v) ∙ ap length (sym x.bytes) ∙ length-sets l o w
+  pub left_long : length l' ≡ length l
+  left_long = sym (length-sets l' m v) ∙ ap length (sym x.bytes) ∙ length-sets l o w
 
-  pub left-room : (a b : List ℕ) → v ≡ a ++ b → o + length w ≤ length l → m + length a ≤ length l'
-  left-room a b e h = let c = x.count in let d = ap length e ∙ length-append a b in let k = left-long in omega arith
+  pub left_room : (a b : List ℕ) → v ≡ a ++ b → o + length w ≤ length l → m + length a ≤ length l'
+  left_room a b e h = let c = x.count in let d = ap length e ∙ length-append a b in let k = left_long in omega arith
 
   pub left_step : (a b : List ℕ) {l'' : List ℕ} {r : ℕ} → v ≡ a ++ b → Wrote l' l'' m r a → Left l o w l'' r b
   left_step a b e y =
@@ -183,8 +183,8 @@ module _ {l : List ℕ} {o : ℕ} {w l' : List ℕ} {m : ℕ} {v : List ℕ} (x 
         count = omega arith;
       }
 
-  pub left-done : v ≡ [] → Wrote l l' o m w
-  left-done e =
+  pub left_done : v ≡ [] → Wrote l l' o m w
+  left_done e =
       let c = x.count in
       let d : length v ≡ 0 = ap length e in
       record { place = omega arith; bytes = sym (x.bytes ∙ ap (sets l' m) e) }

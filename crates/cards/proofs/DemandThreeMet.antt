@@ -1,5 +1,5 @@
 -- Demand 3 is not empty: two questions that differ in a stranger's entries, of which the second has another entry number in its event
--- (request 105), and two of which the second has a rule more, meet its conditions by computation. alike-strangers, alike-rule.
+-- (request 105), and two of which the second has a rule more, meet its conditions by computation. alike_strangers, alike_rule.
 -- Assumes nothing.
 use Prim.Native.Nat.{ℕ, ◌+◌}
 use mathlib.Core.Path.{◌≡◌, refl}
@@ -48,24 +48,24 @@ guarded =
     ∷ 28 ∷ 0 ∷ 0 ∷ 0 ∷ 2 ∷ 0 ∷ 28 ∷ 0 ∷ 1 ∷ 0 ∷ 0 ∷ 0 ∷ theirs (0 ∷ 0 ∷ 0 ∷ 0 ∷ 0 ∷ 0 ∷ 0 ∷ 0 ∷ []))
 
 pub record Instances : Type 0 where
-  pub wide-accepted : Accepted wide
-  pub watched-accepted : Accepted watched
-  pub guarded-accepted : Accepted guarded
-  pub narrowed-accepted : Accepted narrowed
-  pub alike-strangers : SameButStrangers watched guarded
-  pub watched-events : events_given watched ≡ event 0 0 3 ∷ []
-  pub guarded-events : events_given guarded ≡ event 0 1 3 ∷ []
-  pub alike-rule : SameButOneRule wide narrowed
+  pub wide_accepted : Accepted wide
+  pub watched_accepted : Accepted watched
+  pub guarded_accepted : Accepted guarded
+  pub narrowed_accepted : Accepted narrowed
+  pub alike_strangers : SameButStrangers watched guarded
+  pub watched_events : events_given watched ≡ event 0 0 3 ∷ []
+  pub guarded_events : events_given guarded ≡ event 0 1 3 ∷ []
+  pub alike_rule : SameButOneRule wide narrowed
 
 pub instances : Instances
 unfolding the_page
 instances =
     record {
-      wide-accepted = refl;
-      watched-accepted = refl;
-      guarded-accepted = refl;
-      narrowed-accepted = refl;
-      alike-strangers =
+      wide_accepted = refl;
+      watched_accepted = refl;
+      guarded_accepted = refl;
+      narrowed_accepted = refl;
+      alike_strangers =
           record {
             kind = refl;
             mask = refl;
@@ -88,9 +88,9 @@ instances =
                 })
                 no_rules;
           };
-      watched-events = refl;
-      guarded-events = refl;
-      alike-rule =
+      watched_events = refl;
+      guarded_events = refl;
+      alike_rule =
           record {
             kind = refl;
             mask = refl;

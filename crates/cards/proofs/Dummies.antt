@@ -1,6 +1,6 @@
 -- "Try these dummies against demands 2 and 3 together": what satisfies demand 3, or most of it, and is still no access check.
--- Demand 2 says that the check is `checked`; none of these is. refuses-all, grants-nothing: by card c1. first-entry-only,
--- first-rule-only: by two questions that such a function cannot tell apart.
+-- Demand 2 says that the check is `checked`; none of these is. refuses_all, grants_nothing: by card c1. first_entry_only,
+-- first_rule_only: by two questions that such a function cannot tell apart.
 -- Assumes nothing.
 use Prim.Native.Nat.{ℕ}
 use mathlib.Core.Path.{◌≡◌, refl, sym, ap, ◌∙◌}
@@ -45,29 +45,29 @@ narrowed = asks 1 3 TU [] descriptor_3 (1 ∷ 2 ∷ 0 ∷ 0 ∷ 0 ∷ rule_for 3
 
 -- by computation
 pub record Worked : Type 0 where
-  pub c1-given : checked c1 ≡ given 0x120089 true false
-  pub both-given : checked both ≡ given 1 false false
-  pub denied-given : checked denied ≡ given 0 false false
-  pub wide-given : checked wide ≡ given 3 true false
-  pub narrowed-given : checked narrowed ≡ stepwise 3 3 1 1 false false
-  pub same-owner : owner_of both.descriptor ≡ owner_of denied.descriptor
-  pub same-present : (dacl_in both.descriptor).present ≡ (dacl_in denied.descriptor).present
+  pub c1_given : checked c1 ≡ given 0x120089 true false
+  pub both_given : checked both ≡ given 1 false false
+  pub denied_given : checked denied ≡ given 0 false false
+  pub wide_given : checked wide ≡ given 3 true false
+  pub narrowed_given : checked narrowed ≡ stepwise 3 3 1 1 false false
+  pub same_owner : owner_of both.descriptor ≡ owner_of denied.descriptor
+  pub same_present : (dacl_in both.descriptor).present ≡ (dacl_in denied.descriptor).present
   pub same_first : take 1 (dacl_in both.descriptor).entries ≡ take 1 (dacl_in denied.descriptor).entries
-  pub same-rule : take 1 (rules_of wide.policy) ≡ take 1 (rules_of narrowed.policy)
+  pub same_rule : take 1 (rules_of wide.policy) ≡ take 1 (rules_of narrowed.policy)
 
 pub worked : Worked
 unfolding the_page
 worked =
     record {
-      c1-given = refl;
-      both-given = refl;
-      denied-given = refl;
-      wide-given = refl;
-      narrowed-given = refl;
-      same-owner = refl;
-      same-present = refl;
+      c1_given = refl;
+      both_given = refl;
+      denied_given = refl;
+      wide_given = refl;
+      narrowed_given = refl;
+      same_owner = refl;
+      same_present = refl;
       same_first = refl;
-      same-rule = refl;
+      same_rule = refl;
     }
 
 -- ---- refusing everything, granting 0 everywhere
@@ -77,11 +77,11 @@ abbrev pub Check : (Question → Answer) → Type 0
 Check f = (q : Question) → f q ≡ checked q
 
 pub refuses_all : (f : Question → Answer) → ((q : Question) → (f q).status ≡ 0 → ⊥) → Check f → ⊥
-refuses_all f r c = r c1 (ap (λ (a : Answer). a.status) (c c1 ∙ worked.c1-given))
+refuses_all f r c = r c1 (ap (λ (a : Answer). a.status) (c c1 ∙ worked.c1_given))
 
 pub grants_nothing : (f : Question → Answer) → ((q : Question) → (f q).granted.0 ≡ 0) → Check f → ⊥
 grants_nothing f g c =
-    let e : ◌≡◌ {A = ℕ} 0 0x120089 = sym (g c1) ∙ ap (λ (a : Answer). a.granted.0) (c c1 ∙ worked.c1-given) in
+    let e : ◌≡◌ {A = ℕ} 0 0x120089 = sym (g c1) ∙ ap (λ (a : Answer). a.granted.0) (c c1 ∙ worked.c1_given) in
     omega arith
 
 -- ---- applying only the first entry, or only the first rule
@@ -102,9 +102,9 @@ pub record FirstEntryOnly (f : Question → Answer) : Type 0 where
 
 pub first_entry_only : (f : Question → Answer) → FirstEntryOnly f → Check f → ⊥
 first_entry_only f b c =
-    let e = b.blind both denied refl refl refl refl worked.same-owner worked.same-present worked.same_first refl in
+    let e = b.blind both denied refl refl refl refl worked.same_owner worked.same_present worked.same_first refl in
     let z : ◌≡◌ {A = ℕ} 1 0 =
-    ap (λ (a : Answer). a.granted.0) (sym worked.both-given ∙ sym (c both) ∙ e ∙ c denied ∙ worked.denied-given) in
+    ap (λ (a : Answer). a.granted.0) (sym worked.both_given ∙ sym (c both) ∙ e ∙ c denied ∙ worked.denied_given) in
     omega arith
 
 -- whose answer does not change with the rules after the first
@@ -121,7 +121,7 @@ pub record FirstRuleOnly (f : Question → Answer) : Type 0 where
 
 pub first_rule_only : (f : Question → Answer) → FirstRuleOnly f → Check f → ⊥
 first_rule_only f b c =
-    let e = b.blind wide narrowed refl refl refl refl refl worked.same-rule in
+    let e = b.blind wide narrowed refl refl refl refl refl worked.same_rule in
     let z : ◌≡◌ {A = ℕ} 3 1 =
-    ap (λ (a : Answer). a.granted.0) (sym worked.wide-given ∙ sym (c wide) ∙ e ∙ c narrowed ∙ worked.narrowed-given) in
+    ap (λ (a : Answer). a.granted.0) (sym worked.wide_given ∙ sym (c wide) ∙ e ∙ c narrowed ∙ worked.narrowed_given) in
     omega arith

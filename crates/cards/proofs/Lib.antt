@@ -7,7 +7,7 @@ pub mod CardsHold
 pub mod Dummies
 -- pairs of questions that meet the conditions of demand 3
 pub mod DemandThreeMet
--- a pair that meets the conditions of request 101's `same-reading`
+-- a pair that meets the conditions of request 101's `same_reading`
 pub mod LongEntriesMet
 -- request 102: a folder that its owner keeps, and one that he loses
 pub mod OwnerEntriesMet

@@ -1,5 +1,5 @@
--- Request 101's `same-reading` is not empty: two questions whose lists differ in spare bytes meet its conditions by computation.
--- alike-reading. Assumes nothing.
+-- Request 101's `same_reading` is not empty: two questions whose lists differ in spare bytes meet its conditions by computation.
+-- alike_reading. Assumes nothing.
 use mathlib.Core.Path.{refl}
 use mathlib.Core.List.{[], ◌∷◌}
 use Rattle.access.specs.Status.{Question}
@@ -26,15 +26,15 @@ long =
     ∷ 0 ∷ 0 ∷ 0 ∷ 0 ∷ 0 ∷ 0 ∷ 0 ∷ 0 ∷ 0 ∷ 0 ∷ 0 ∷ 0 ∷ [])
 
 pub record Instances : Type 0 where
-  pub long-accepted : Accepted long
-  pub alike-reading : ReadTheSame watched long
+  pub long_accepted : Accepted long
+  pub alike_reading : ReadTheSame watched long
 
 pub instances : Instances
 unfolding the_page
 instances =
     record {
-      long-accepted = refl;
-      alike-reading =
+      long_accepted = refl;
+      alike_reading =
           record {
             kind = refl;
             mask = refl;

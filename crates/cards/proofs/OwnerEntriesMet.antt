@@ -1,5 +1,5 @@
 -- Request 102 worked, by computation: a foreman's folder with an entry for S-1-3-4, inherit-only (flags 0x0B) or inherited (0x13), in the
--- descriptor's list, in a rule's effective and in its staged one. keeps, loses: what `owner-keeps` and `owner-loses` ask for is met.
+-- descriptor's list, in a rule's effective and in its staged one. keeps, loses: what `owner_keeps` and `owner_loses` ask for is met.
 -- Assumes nothing.
 use Prim.Native.Nat.{ℕ}
 use mathlib.Core.Path.{◌≡◌, refl, ap}
@@ -40,28 +40,28 @@ house f g =
     ∷ 0 ∷ 0 ∷ 0 ∷ 0 ∷ 28 ∷ 0 ∷ 0 ∷ 0 ∷ list f (0 ∷ 0 ∷ 0 ∷ 0 ∷ 28 ∷ 0 ∷ 0 ∷ 0 ∷ list g (0 ∷ 0 ∷ 0 ∷ 0 ∷ [])))
 
 pub record Instances : Type 0 where
-  pub folder-kept : checked (folder 0x0B) ≡ given 0x60000 true false
-  pub folder-lost : checked (folder 0x13) ≡ given 0 false false
-  pub rule-kept : checked (house 0x0B 0x0B) ≡ given 0x60000 true false
-  pub rule-lost : checked (house 0x13 0x13) ≡ stepwise 0x60000 0x60000 0 0 false false
-  pub staged-lost : checked (house 0x0B 0x13) ≡ given 0x60000 true true
-  pub staged-kept : checked (house 0x13 0x0B) ≡ stepwise 0x60000 0x60000 0 0 false true
-  pub folder-apart : by_object (folder 0x0B) ≡ given 0x60000 true false
-  pub owner-asks : OwnerAsks (folder 0x0B)
+  pub folder_kept : checked (folder 0x0B) ≡ given 0x60000 true false
+  pub folder_lost : checked (folder 0x13) ≡ given 0 false false
+  pub rule_kept : checked (house 0x0B 0x0B) ≡ given 0x60000 true false
+  pub rule_lost : checked (house 0x13 0x13) ≡ stepwise 0x60000 0x60000 0 0 false false
+  pub staged_lost : checked (house 0x0B 0x13) ≡ given 0x60000 true true
+  pub staged_kept : checked (house 0x13 0x0B) ≡ stepwise 0x60000 0x60000 0 0 false true
+  pub folder_apart : by_object (folder 0x0B) ≡ given 0x60000 true false
+  pub owner_asks : OwnerAsks (folder 0x0B)
   pub counted : OwnerEntry (dacl_in (folder 0x13).descriptor).entries
 
 pub instances : Instances
 unfolding the_page
 instances =
     record {
-      folder-kept = refl;
-      folder-lost = refl;
-      rule-kept = refl;
-      rule-lost = refl;
-      staged-lost = refl;
-      staged-kept = refl;
-      folder-apart = refl;
-      owner-asks = refl;
+      folder_kept = refl;
+      folder_lost = refl;
+      rule_kept = refl;
+      rule_lost = refl;
+      staged_lost = refl;
+      staged_kept = refl;
+      folder_apart = refl;
+      owner_asks = refl;
       counted =
           record {
             before = [];
@@ -88,7 +88,7 @@ none_counts d descriptors o =
 none_counts d (rules before r after e b) o = absurd (no_rule_lem before r after e)
 
 pub keeps : Within (and (asked 1 0x60000) (owners_rights (folder 0x0B))) (checked (folder 0x0B)).granted.0
-keeps = owner_keeps (folder 0x0B) (ap (λ (a : Answer). a.status) instances.folder-kept) instances.owner-asks none_counts
+keeps = owner_keeps (folder 0x0B) (ap (λ (a : Answer). a.status) instances.folder_kept) instances.owner_asks none_counts
 
 pub loses : Within (and (checked (folder 0x13)).granted.0 0x60000) (its_list (folder 0x13) (dacl_in (folder 0x13).descriptor))
-loses = owner_loses (folder 0x13) _ (ap (λ (a : Answer). a.status) instances.folder-lost) descriptors instances.counted
+loses = owner_loses (folder 0x13) _ (ap (λ (a : Answer). a.status) instances.folder_lost) descriptors instances.counted

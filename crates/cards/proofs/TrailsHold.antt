@@ -1,6 +1,6 @@
 -- A worked trail (request 105), by computation: the descriptor's SACL and the rule's raise an event each, with the sources 0 and 1; the rule's
--- staged SACL has the entry twice, so that the flag is raised (trail-holds); six bytes are room enough, and five are not (trail-exact,
--- trail-short).
+-- staged SACL has the entry twice, so that the flag is raised (trail_holds); six bytes are room enough, and five are not (trail_exact,
+-- trail_short).
 -- Assumes nothing.
 use mathlib.Core.Path.{◌≡◌, refl}
 use mathlib.Core.List.{[], ◌∷◌}

@@ -1,6 +1,6 @@
--- Laws of membership: the SIDs of a list one by one; `Meeting` is the invariant of the walk over them (meeting-start -stop -end -decided
--- -more); the four tests of membership (reply-..), what the latest operand is told (told-other, told-list), no
--- condition (admits-none), and no SID (none_told). Assumes nothing.
+-- Laws of membership: the SIDs of a list one by one; `Meeting` is the invariant of the walk over them (meeting_start -stop -end -decided
+-- -more); the four tests of membership (reply-..), what the latest operand is told (told_other, told_list), no
+-- condition (admits_none), and no SID (none_told). Assumes nothing.
 use Prim.Native.Nat.{ℕ, zero, suc, ◌+◌, ◌%◌, ◌<◌, ◌≤◌}
 use mathlib.Core.Path.{◌≡◌, refl, ap, ◌∙◌}
 use mathlib.Core.List.{List, [], ◌∷◌}
@@ -14,7 +14,7 @@ use Rattle.conditions.specs.Condition.Item.{truth, sids}
 use Rattle.conditions.specs.Stack.{coded}
 use Rattle.conditions.specs.Membership.{sids_at, sids_of, all_of, any_of, meets, reply, told_of, admits}
 use Rattle.conditions.specs.declared.stack.Stack.{Stack}
-use Rattle.conditions.proofs.OperandLaws.{enclosed-short, literal-none, literal-bounds}
+use Rattle.conditions.proofs.OperandLaws.{enclosed_short, literal_none, literal_bounds}
 use Rattle.conditions.proofs.RunLaws.{holds_coded}
 
 -- ---- the SIDs of a list
@@ -51,27 +51,27 @@ module _ (f : List ℕ → Bool) (every : Bool) (l : List ℕ) where
   abbrev pub Meeting : ℕ → Type 0
   Meeting at = (n : ℕ) × ((length l ≤ at + n) × (meets f every (sids_of l) ≡ meets f every (sids_at l n at)))
 
-  pub meeting-start : Meeting 0
+  pub meeting_start : Meeting 0
   unfolding sids_of
-  meeting-start = (length l, (omega arith, refl))
+  meeting_start = (length l, (omega arith, refl))
 
   module _ (at : ℕ) where
-    pub meeting-stop : Meeting at → literal_end l at ≡ 0 → meets f every (sids_of l) ≡ every
-    meeting-stop (n, (k, e)) h = e ∙ ap (meets f every) (sids_stop l n at h) ∙ meets_none f every
+    pub meeting_stop : Meeting at → literal_end l at ≡ 0 → meets f every (sids_of l) ≡ every
+    meeting_stop (n, (k, e)) h = e ∙ ap (meets f every) (sids_stop l n at h) ∙ meets_none f every
 
-    pub meeting-end : Meeting at → length l ≤ at → meets f every (sids_of l) ≡ every
-    meeting-end m h = meeting-stop m (literal-none l at (enclosed-short l at (omega arith)))
+    pub meeting_end : Meeting at → length l ≤ at → meets f every (sids_of l) ≡ every
+    meeting_end m h = meeting_stop m (literal_none l at (enclosed_short l at (omega arith)))
 
     module _ (to : ℕ) (lt : at < length l) (q : to ≡ literal_end l at) (h : to ≡ 0 → ⊥) where
-      pub meeting-decided : Meeting at → f (part l (at + 5) to) ≡ not every → meets f every (sids_of l) ≡ not every
-      meeting-decided (zero, (k, e)) g = absurd (omega arith)
-      meeting-decided (suc n, (k, e)) g =
+      pub meeting_decided : Meeting at → f (part l (at + 5) to) ≡ not every → meets f every (sids_of l) ≡ not every
+      meeting_decided (zero, (k, e)) g = absurd (omega arith)
+      meeting_decided (suc n, (k, e)) g =
           e ∙ ap (meets f every) (sids_more l n at to q h) ∙ meets_decided f every (part l (at + 5) to) (sids_at l n to) g
 
-      pub meeting-more : Meeting at → f (part l (at + 5) to) ≡ every → Meeting to
-      meeting-more (zero, (k, e)) g = absurd (omega arith)
-      meeting-more (suc n, (k, e)) g =
-          let b : (at + 5 ≤ literal_end l at) × (literal_end l at ≤ length l) = literal-bounds l at (λ z. h (q ∙ z)) in (
+      pub meeting_more : Meeting at → f (part l (at + 5) to) ≡ every → Meeting to
+      meeting_more (zero, (k, e)) g = absurd (omega arith)
+      meeting_more (suc n, (k, e)) g =
+          let b : (at + 5 ≤ literal_end l at) × (literal_end l at ≤ length l) = literal_bounds l at (λ z. h (q ∙ z)) in (
             n,
             (
               omega arith,
@@ -82,44 +82,44 @@ module _ (f : List ℕ → Bool) (every : Bool) (l : List ℕ) where
 -- ---- the four tests of membership
 
 module _ (f : List ℕ → Bool) (b : ℕ) (l : List (List ℕ)) where
-  pub reply-all : b ≡ 0x89 → reply f b l ≡ meets f true l
+  pub reply_all : b ≡ 0x89 → reply f b l ≡ meets f true l
   unfolding reply
-  reply-all h = rw (eq-eqb b 0x89 h)
+  reply_all h = rw (eq-eqb b 0x89 h)
 
-  pub reply-any : b ≡ 0x8b → reply f b l ≡ meets f false l
+  pub reply_any : b ≡ 0x8b → reply f b l ≡ meets f false l
   unfolding reply
-  reply-any h = rw (ne_eqb b 0x89 (λ q. omega arith), eq-eqb b 0x8b h)
+  reply_any h = rw (ne_eqb b 0x89 (λ q. omega arith), eq-eqb b 0x8b h)
 
-  pub reply-not-all : b ≡ 0x90 → reply f b l ≡ not (meets f true l)
+  pub reply_not_all : b ≡ 0x90 → reply f b l ≡ not (meets f true l)
   unfolding reply
-  reply-not-all h = rw (ne_eqb b 0x89 (λ q. omega arith), ne_eqb b 0x8b (λ q. omega arith), eq-eqb b 0x90 h)
+  reply_not_all h = rw (ne_eqb b 0x89 (λ q. omega arith), ne_eqb b 0x8b (λ q. omega arith), eq-eqb b 0x90 h)
 
-  pub reply-not-any : (b ≡ 0x89 → ⊥) → (b ≡ 0x8b → ⊥) → (b ≡ 0x90 → ⊥) → reply f b l ≡ not (meets f false l)
+  pub reply_not_any : (b ≡ 0x89 → ⊥) → (b ≡ 0x8b → ⊥) → (b ≡ 0x90 → ⊥) → reply f b l ≡ not (meets f false l)
   unfolding reply
-  reply-not-any x y z = rw (ne_eqb b 0x89 x, ne_eqb b 0x8b y, ne_eqb b 0x90 z)
+  reply_not_any x y z = rw (ne_eqb b 0x89 x, ne_eqb b 0x8b y, ne_eqb b 0x90 z)
 
 -- ---- the latest operand
 
 module _ (f : List ℕ → Bool) (s : List ℕ) (b : ℕ) (m : Stack) where
-  pub told-other : (m.word % 4 ≡ 3 → ⊥) → (st : List Item) → m ≡ coded st → told_of f s b st ≡ false
+  pub told_other : (m.word % 4 ≡ 3 → ⊥) → (st : List Item) → m ≡ coded st → told_of f s b st ≡ false
   unfolding told_of
-  told-other h [] q = refl
-  told-other h (truth t ∷ st) q = refl
-  told-other h (sids a e ∷ st) q = let w = holds_coded m (sids a e ∷ st) q in absurd (h (omega arith))
+  told_other h [] q = refl
+  told_other h (truth t ∷ st) q = refl
+  told_other h (sids a e ∷ st) q = let w = holds_coded m (sids a e ∷ st) q in absurd (h (omega arith))
 
-  pub told-list : m.word % 4 ≡ 3 → (st : List Item) → m ≡ coded st → told_of f s b st ≡ reply f b (sids_of (part s m.from m.to))
+  pub told_list : m.word % 4 ≡ 3 → (st : List Item) → m ≡ coded st → told_of f s b st ≡ reply f b (sids_of (part s m.from m.to))
   unfolding told_of
-  told-list h [] q = let w : m.word ≡ 0 = ap (λ (k : Stack). k.word) q in absurd (omega arith)
-  told-list h (truth true ∷ st) q = let w = holds_coded m (truth true ∷ st) q in absurd (omega (arith, w))
-  told-list h (truth false ∷ st) q = let w = holds_coded m (truth false ∷ st) q in absurd (omega (arith, w))
-  told-list h (sids a e ∷ st) q = rw q
+  told_list h [] q = let w : m.word ≡ 0 = ap (λ (k : Stack). k.word) q in absurd (omega arith)
+  told_list h (truth true ∷ st) q = let w = holds_coded m (truth true ∷ st) q in absurd (omega (arith, w))
+  told_list h (truth false ∷ st) q = let w = holds_coded m (truth false ∷ st) q in absurd (omega (arith, w))
+  told_list h (sids a e ∷ st) q = rw q
 
 -- ---- what admits
 
 module _ (f : List ℕ → Bool) where
-  pub admits-none : admits f [] ≡ true
+  pub admits_none : admits f [] ≡ true
   unfolding admits
-  admits-none = refl
+  admits_none = refl
 
   -- of no SID: all of them are members, and none is
   pub none_told : (reply f 0x89 [] ≡ true) × (reply f 0x8b [] ≡ false) × (reply f 0x90 [] ≡ false) × (reply f 0x92 [] ≡ true)

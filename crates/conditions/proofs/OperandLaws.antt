@@ -1,4 +1,4 @@
--- Laws of operands: what a length encloses (enclosed-short -cut -whole -bounds), a SID literal (literal-none -is -bounds), the
+-- Laws of operands: what a length encloses (enclosed_short -cut -whole -bounds), a SID literal (literal_none -is -bounds), the
 -- literals of a composite (literals-.., Listing, listing-..). Assumes nothing.
 use Prim.Native.Nat.{ℕ, zero, suc, ◌+◌, ◌<◌, ◌≤◌}
 use mathlib.Core.Path.{◌≡◌, refl, sym, ap, ◌∙◌}
@@ -16,51 +16,51 @@ use Rattle.conditions.specs.declared.scan.Scan.TheVariants.{Broken, Plain}
 -- ---- what a length encloses
 
 module _ (s : List ℕ) (at : ℕ) where
-  pub enclosed-short : length s < at + 5 → enclosed_end s at ≡ 0
+  pub enclosed_short : length s < at + 5 → enclosed_end s at ≡ 0
   unfolding enclosed_end
-  enclosed-short h = rw (lt-ltb (length s) (at + 5) h)
+  enclosed_short h = rw (lt-ltb (length s) (at + 5) h)
 
-  pub enclosed-cut : at + 5 ≤ length s → length s < at + 5 + u32_at s (at + 1) → enclosed_end s at ≡ 0
+  pub enclosed_cut : at + 5 ≤ length s → length s < at + 5 + u32_at s (at + 1) → enclosed_end s at ≡ 0
   unfolding enclosed_end
-  enclosed-cut f h = rw (le-ltb (length s) (at + 5) f, lt-ltb (length s) (at + 5 + u32_at s (at + 1)) h)
+  enclosed_cut f h = rw (le-ltb (length s) (at + 5) f, lt-ltb (length s) (at + 5 + u32_at s (at + 1)) h)
 
-  pub enclosed-whole : at + 5 + u32_at s (at + 1) ≤ length s → enclosed_end s at ≡ at + 5 + u32_at s (at + 1)
+  pub enclosed_whole : at + 5 + u32_at s (at + 1) ≤ length s → enclosed_end s at ≡ at + 5 + u32_at s (at + 1)
   unfolding enclosed_end
-  enclosed-whole h = rw (le-ltb (length s) (at + 5) (omega arith), le-ltb (length s) (at + 5 + u32_at s (at + 1)) h)
+  enclosed_whole h = rw (le-ltb (length s) (at + 5) (omega arith), le-ltb (length s) (at + 5 + u32_at s (at + 1)) h)
 
-  pub enclosed-bounds : (enclosed_end s at ≡ 0 → ⊥) → (at + 5 ≤ enclosed_end s at) × (enclosed_end s at ≤ length s)
-  enclosed-bounds h = go (ltb (length s) (at + 5)) refl (ltb (length s) (at + 5 + u32_at s (at + 1))) refl
+  pub enclosed_bounds : (enclosed_end s at ≡ 0 → ⊥) → (at + 5 ≤ enclosed_end s at) × (enclosed_end s at ≤ length s)
+  enclosed_bounds h = go (ltb (length s) (at + 5)) refl (ltb (length s) (at + 5 + u32_at s (at + 1))) refl
     where
       go : (t : Bool) → ltb (length s) (at + 5) ≡ t → (u : Bool) → ltb (length s) (at + 5 + u32_at s (at + 1)) ≡ u →
           (at + 5 ≤ enclosed_end s at) × (enclosed_end s at ≤ length s)
-      go true e u f = absurd (h (enclosed-short (ltb-true _ _ e)))
-      go false e true f = absurd (h (enclosed-cut (ltb-false _ _ e) (ltb-true _ _ f)))
+      go true e u f = absurd (h (enclosed_short (ltb-true _ _ e)))
+      go false e true f = absurd (h (enclosed_cut (ltb-false _ _ e) (ltb-true _ _ f)))
       go false e false f =
           let k : at + 5 + u32_at s (at + 1) ≤ length s = ltb-false _ _ f in
-          let w : enclosed_end s at ≡ at + 5 + u32_at s (at + 1) = enclosed-whole k in
+          let w : enclosed_end s at ≡ at + 5 + u32_at s (at + 1) = enclosed_whole k in
           (omega arith, omega arith)
 
 -- ---- a SID literal
 
 module _ (s : List ℕ) (at : ℕ) where
-  pub literal-none : enclosed_end s at ≡ 0 → literal_end s at ≡ 0
+  pub literal_none : enclosed_end s at ≡ 0 → literal_end s at ≡ 0
   unfolding literal_end
-  literal-none h = rw (eq-eqb (enclosed_end s at) 0 h)
+  literal_none h = rw (eq-eqb (enclosed_end s at) 0 h)
 
-  pub literal-is : (enclosed_end s at ≡ 0 → ⊥) → literal_end s at ≡ cond (is_sid (part s (at + 5) (enclosed_end s at))) (enclosed_end s at) 0
+  pub literal_is : (enclosed_end s at ≡ 0 → ⊥) → literal_end s at ≡ cond (is_sid (part s (at + 5) (enclosed_end s at))) (enclosed_end s at) 0
   unfolding literal_end
-  literal-is h = rw (ne_eqb (enclosed_end s at) 0 h)
+  literal_is h = rw (ne_eqb (enclosed_end s at) 0 h)
 
-  pub literal-bounds : (literal_end s at ≡ 0 → ⊥) → (at + 5 ≤ literal_end s at) × (literal_end s at ≤ length s)
-  literal-bounds h = go (eqb (enclosed_end s at) 0) refl (is_sid (part s (at + 5) (enclosed_end s at))) refl
+  pub literal_bounds : (literal_end s at ≡ 0 → ⊥) → (at + 5 ≤ literal_end s at) × (literal_end s at ≤ length s)
+  literal_bounds h = go (eqb (enclosed_end s at) 0) refl (is_sid (part s (at + 5) (enclosed_end s at))) refl
     where
       go : (t : Bool) → eqb (enclosed_end s at) 0 ≡ t → (u : Bool) → is_sid (part s (at + 5) (enclosed_end s at)) ≡ u →
           (at + 5 ≤ literal_end s at) × (literal_end s at ≤ length s)
-      go true e u f = absurd (h (literal-none (eqb-true _ _ e)))
-      go false e false f = absurd (h (literal-is (eqb-false _ _ e) ∙ rw f))
+      go true e u f = absurd (h (literal_none (eqb-true _ _ e)))
+      go false e false f = absurd (h (literal_is (eqb-false _ _ e) ∙ rw f))
       go false e true f =
-          let w : literal_end s at ≡ enclosed_end s at = literal-is (eqb-false _ _ e) ∙ rw f in
-          let b : (at + 5 ≤ enclosed_end s at) × (enclosed_end s at ≤ length s) = enclosed-bounds s at (eqb-false _ _ e) in
+          let w : literal_end s at ≡ enclosed_end s at = literal_is (eqb-false _ _ e) ∙ rw f in
+          let b : (at + 5 ≤ enclosed_end s at) × (enclosed_end s at ≤ length s) = enclosed_bounds s at (eqb-false _ _ e) in
           (omega arith, omega arith)
 
 -- ---- a composite's literals
@@ -72,17 +72,17 @@ module _ (l : List ℕ) (at : ℕ) where
   literals_end (suc n) h = rw (le-ltb at (length l) h)
 
   module _ (n : ℕ) (h : at < length l) where
-    pub literals-stray : (byte_at l at ≡ 0x51 → ⊥) → literals_at l (suc n) at ≡ stray (byte_at l at)
+    pub literals_stray : (byte_at l at ≡ 0x51 → ⊥) → literals_at l (suc n) at ≡ stray (byte_at l at)
     unfolding literals_at
-    literals-stray k = rw (lt-ltb at (length l) h, ne_eqb (byte_at l at) 0x51 k)
+    literals_stray k = rw (lt-ltb at (length l) h, ne_eqb (byte_at l at) 0x51 k)
 
-    pub literals-broken : byte_at l at ≡ 0x51 → literal_end l at ≡ 0 → literals_at l (suc n) at ≡ Broken
+    pub literals_broken : byte_at l at ≡ 0x51 → literal_end l at ≡ 0 → literals_at l (suc n) at ≡ Broken
     unfolding literals_at
-    literals-broken k e = rw (lt-ltb at (length l) h, eq-eqb (byte_at l at) 0x51 k, eq-eqb (literal_end l at) 0 e)
+    literals_broken k e = rw (lt-ltb at (length l) h, eq-eqb (byte_at l at) 0x51 k, eq-eqb (literal_end l at) 0 e)
 
-    pub literals-more : byte_at l at ≡ 0x51 → (literal_end l at ≡ 0 → ⊥) → literals_at l (suc n) at ≡ literals_at l n (literal_end l at)
+    pub literals_more : byte_at l at ≡ 0x51 → (literal_end l at ≡ 0 → ⊥) → literals_at l (suc n) at ≡ literals_at l n (literal_end l at)
     unfolding literals_at
-    literals-more k e = rw (lt-ltb at (length l) h, eq-eqb (byte_at l at) 0x51 k, ne_eqb (literal_end l at) 0 e)
+    literals_more k e = rw (lt-ltb at (length l) h, eq-eqb (byte_at l at) 0x51 k, ne_eqb (literal_end l at) 0 e)
 
 -- the composite comes to what its bytes from a place on come to, in some number of steps that is enough for them
 abbrev pub Listing : List ℕ → ℕ → Type 0
@@ -97,15 +97,15 @@ listing_end l at (n, (k, e)) h = e ∙ literals_end l at n h
 
 pub listing_stray : (l : List ℕ) (at : ℕ) → Listing l at → at < length l → (byte_at l at ≡ 0x51 → ⊥) → literals l ≡ stray (byte_at l at)
 listing_stray l at (zero, (k, e)) h x = absurd (omega arith)
-listing_stray l at (suc n, (k, e)) h x = e ∙ literals-stray l at n h x
+listing_stray l at (suc n, (k, e)) h x = e ∙ literals_stray l at n h x
 
 pub listing_broken : (l : List ℕ) (at : ℕ) → Listing l at → at < length l → byte_at l at ≡ 0x51 → literal_end l at ≡ 0 → literals l ≡ Broken
 listing_broken l at (zero, (k, e)) h x y = absurd (omega arith)
-listing_broken l at (suc n, (k, e)) h x y = e ∙ literals-broken l at n h x y
+listing_broken l at (suc n, (k, e)) h x y = e ∙ literals_broken l at n h x y
 
 pub listing_more : (l : List ℕ) (at to : ℕ) → Listing l at → at < length l → byte_at l at ≡ 0x51 → to ≡ literal_end l at → (to ≡ 0 → ⊥) →
     Listing l to
 listing_more l at to (zero, (k, e)) h x y z = absurd (omega arith)
 listing_more l at to (suc n, (k, e)) h x y z =
-    let b : (at + 5 ≤ literal_end l at) × (literal_end l at ≤ length l) = literal-bounds l at (λ q. z (y ∙ q)) in
-    (n, (omega arith, e ∙ literals-more l at n h x (λ q. z (y ∙ q)) ∙ ap (literals_at l n) (sym y)))
+    let b : (at + 5 ≤ literal_end l at) × (literal_end l at ≤ length l) = literal_bounds l at (λ q. z (y ∙ q)) in
+    (n, (omega arith, e ∙ literals_more l at n h x (λ q. z (y ∙ q)) ∙ ap (literals_at l n) (sym y)))

@@ -1,4 +1,4 @@
--- Laws of padding: zeros from a place (zeros-hit -miss -end), and a part up to the end (part-rest). Assumes nothing.
+-- Laws of padding: zeros from a place (zeros_hit -miss -end), and a part up to the end (part_rest). Assumes nothing.
 use Prim.Native.Nat.{ℕ, ◌+◌, ◌<◌, ◌≤◌}
 use mathlib.Core.Path.{◌≡◌, sym, ap, ◌∙◌}
 use mathlib.Core.List.{List}
@@ -11,17 +11,17 @@ use Rattle.base.specs.Bytes.{byte_at, part}
 use Rattle.conditions.specs.Condition.{zeros}
 
 module _ (s : List ℕ) (i : ℕ) where
-  pub zeros-hit : i < length s → byte_at s i ≡ 0 → zeros (drop i s) ≡ zeros (drop (i + 1) s)
+  pub zeros_hit : i < length s → byte_at s i ≡ 0 → zeros (drop i s) ≡ zeros (drop (i + 1) s)
   unfolding zeros
-  zeros-hit h e = rw (add-one, drop-cons s i 0, eq-eqb (get_or s i 0) 0 e)
+  zeros_hit h e = rw (add-one, drop-cons s i 0, eq-eqb (get_or s i 0) 0 e)
 
-  pub zeros-miss : i < length s → (byte_at s i ≡ 0 → ⊥) → zeros (drop i s) ≡ false
+  pub zeros_miss : i < length s → (byte_at s i ≡ 0 → ⊥) → zeros (drop i s) ≡ false
   unfolding zeros
-  zeros-miss h e = rw (drop-cons s i 0, ne_eqb (get_or s i 0) 0 e)
+  zeros_miss h e = rw (drop-cons s i 0, ne_eqb (get_or s i 0) 0 e)
 
-  pub zeros-end : length s ≤ i → zeros (drop i s) ≡ true
+  pub zeros_end : length s ≤ i → zeros (drop i s) ≡ true
   unfolding zeros
-  zeros-end h = rw (drop_of_length-le s h)
+  zeros_end h = rw (drop_of_length-le s h)
 
 pub part_rest : (s : List ℕ) (at : ℕ) → part s at (length s) ≡ drop at s
 part_rest s at = ap (λ (n : ℕ). take n (drop at s)) (sym (length-drop at s)) ∙ take-length (drop at s)

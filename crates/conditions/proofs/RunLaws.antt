@@ -1,6 +1,6 @@
 -- Laws of a run over the tokens. `Running` is the loop's invariant: the expression comes to what its bytes from a place on come to, with
 -- some operands that the code's state stands for and some number of steps that is enough. One law for each way on or out, for any way of
--- telling tests and any state K of the code. Past the end no token stands (step-none). Assumes nothing.
+-- telling tests and any state K of the code. Past the end no token stands (step_none). Assumes nothing.
 use Prim.Native.Nat.{ℕ, zero, suc, ◌+◌, ◌<◌, ◌≤◌}
 use mathlib.Core.Path.{◌≡◌, refl, sym, ap, ◌∙◌}
 use mathlib.Core.List.{List, [], ◌∷◌}
@@ -18,8 +18,8 @@ use Rattle.conditions.specs.declared.condition.Outcome.TheVariants.{Broken, Fore
 use Rattle.conditions.specs.declared.stack.Stack.{Stack}
 use Rattle.conditions.specs.declared.stack.Step.{Step}
 use Rattle.conditions.specs.declared.stack.Step.TheVariants as step
-use Rattle.conditions.proofs.PaddingLaws.{zeros-end}
-use Rattle.conditions.proofs.StepLaws.{step_past, on-past}
+use Rattle.conditions.proofs.PaddingLaws.{zeros_end}
+use Rattle.conditions.proofs.StepLaws.{step_past, on_past}
 
 byte_past : (s : List ℕ) (at : ℕ) → length s ≤ at → byte_at s at ≡ 0
 byte_past [] at h = refl
@@ -51,7 +51,7 @@ module _ (tell : ℕ → List Item → Bool) (s : List ℕ) where
   run_from_end : (n at : ℕ) (st : List Item) → length s ≤ at → run_from tell s n at st ≡ ended st
   unfolding run_from
   run_from_end zero at st h = refl
-  run_from_end (suc n) at st h = rw (eq-eqb (byte_at s at) 0 (byte_past s at h), zeros-end s at h)
+  run_from_end (suc n) at st h = rw (eq-eqb (byte_at s at) 0 (byte_past s at h), zeros_end s at h)
 
   module _ (n at : ℕ) (st : List Item) where
     run_from_padded : byte_at s at ≡ 0 → zeros (drop at s) ≡ true → run_from tell s (suc n) at st ≡ ended st
@@ -69,39 +69,39 @@ module _ (tell : ℕ → List Item → Bool) (s : List ℕ) where
   abbrev pub Running : (List Item → Type 0) → ℕ → Type 0
   Running K at = (n : ℕ) × ((st : List Item) × ((length s ≤ at + n) × (K st × (outcome_by tell s ≡ run_from tell s n at st))))
 
-  pub running-start : (K : List Item → Type 0) → u32_at s 0 ≡ 0x78747261 → K [] → Running K 4
+  pub running_start : (K : List Item → Type 0) → u32_at s 0 ≡ 0x78747261 → K [] → Running K 4
   unfolding outcome_by
-  running-start K h k = (length s, ([], (omega arith, (k, rw (eq-eqb (u32_at s 0) 0x78747261 h)))))
+  running_start K h k = (length s, ([], (omega arith, (k, rw (eq-eqb (u32_at s 0) 0x78747261 h)))))
 
   module _ (K : List Item → Type 0) (at : ℕ) where
-    pub running-end : Running K at → length s ≤ at → (o : Outcome) → ((st : List Item) → K st → o ≡ ended st) → outcome_by tell s ≡ o
-    running-end (n, (st, (l, (k, e)))) h o f = e ∙ run_from_end n at st h ∙ sym (f st k)
+    pub running_end : Running K at → length s ≤ at → (o : Outcome) → ((st : List Item) → K st → o ≡ ended st) → outcome_by tell s ≡ o
+    running_end (n, (st, (l, (k, e)))) h o f = e ∙ run_from_end n at st h ∙ sym (f st k)
 
-    pub running-padded : Running K at → at < length s → byte_at s at ≡ 0 → zeros (drop at s) ≡ true → (o : Outcome) →
+    pub running_padded : Running K at → at < length s → byte_at s at ≡ 0 → zeros (drop at s) ≡ true → (o : Outcome) →
         ((st : List Item) → K st → o ≡ ended st) → outcome_by tell s ≡ o
-    running-padded (zero, (st, (l, (k, e)))) h b z o f = absurd (omega arith)
-    running-padded (suc n, (st, (l, (k, e)))) h b z o f = e ∙ run_from_padded n at st b z ∙ sym (f st k)
+    running_padded (zero, (st, (l, (k, e)))) h b z o f = absurd (omega arith)
+    running_padded (suc n, (st, (l, (k, e)))) h b z o f = e ∙ run_from_padded n at st b z ∙ sym (f st k)
 
-    pub running-stained : Running K at → at < length s → byte_at s at ≡ 0 → zeros (drop at s) ≡ false → outcome_by tell s ≡ Broken
-    running-stained (zero, (st, (l, (k, e)))) h b z = absurd (omega arith)
-    running-stained (suc n, (st, (l, (k, e)))) h b z = e ∙ run_from_stained n at st b z
+    pub running_stained : Running K at → at < length s → byte_at s at ≡ 0 → zeros (drop at s) ≡ false → outcome_by tell s ≡ Broken
+    running_stained (zero, (st, (l, (k, e)))) h b z = absurd (omega arith)
+    running_stained (suc n, (st, (l, (k, e)))) h b z = e ∙ run_from_stained n at st b z
 
     -- a step of the code from a place
     abbrev pub Stepped : Step → Type 0
     Stepped r = (st : List Item) → K st → r ≡ step_of (step_at (tell (byte_at s at) st) s at st)
 
-    pub running-broken : Running K at → at < length s → (byte_at s at ≡ 0 → ⊥) → Stepped step.Broken → outcome_by tell s ≡ Broken
-    running-broken (zero, (st, (l, (k, e)))) h b f = absurd (omega arith)
-    running-broken (suc n, (st, (l, (k, e)))) h b f = e ∙ run_from_step n at st b ∙ go (step_at (tell (byte_at s at) st) s at st) (f st k)
+    pub running_broken : Running K at → at < length s → (byte_at s at ≡ 0 → ⊥) → Stepped step.Broken → outcome_by tell s ≡ Broken
+    running_broken (zero, (st, (l, (k, e)))) h b f = absurd (omega arith)
+    running_broken (suc n, (st, (l, (k, e)))) h b f = e ∙ run_from_step n at st b ∙ go (step_at (tell (byte_at s at) st) s at st) (f st k)
       where
         go : (x : Next) → step.Broken ≡ step_of x → follow (run_from tell s n) x ≡ Broken
         go broken q = refl
         go foreign q = let z : ◌≡◌ {A = ℕ} 0 1 = cc in absurd (omega arith)
         go (on p t) q = let z : ◌≡◌ {A = ℕ} 0 1 = cc in absurd (omega arith)
 
-    pub running-foreign : Running K at → at < length s → (byte_at s at ≡ 0 → ⊥) → Stepped step.Foreign → outcome_by tell s ≡ Foreign
-    running-foreign (zero, (st, (l, (k, e)))) h b f = absurd (omega arith)
-    running-foreign (suc n, (st, (l, (k, e)))) h b f = e ∙ run_from_step n at st b ∙ go (step_at (tell (byte_at s at) st) s at st) (f st k)
+    pub running_foreign : Running K at → at < length s → (byte_at s at ≡ 0 → ⊥) → Stepped step.Foreign → outcome_by tell s ≡ Foreign
+    running_foreign (zero, (st, (l, (k, e)))) h b f = absurd (omega arith)
+    running_foreign (suc n, (st, (l, (k, e)))) h b f = e ∙ run_from_step n at st b ∙ go (step_at (tell (byte_at s at) st) s at st) (f st k)
       where
         go : (x : Next) → step.Foreign ≡ step_of x → follow (run_from tell s n) x ≡ Foreign
         go broken q = let z : ◌≡◌ {A = ℕ} 0 1 = cc in absurd (omega arith)
@@ -109,15 +109,15 @@ module _ (tell : ℕ → List Item → Bool) (s : List ℕ) where
         go (on p t) q = let z : ◌≡◌ {A = ℕ} 0 1 = cc in absurd (omega arith)
 
     module _ (p : ℕ) (m : Stack) where
-      pub running-past : Running K at → Stepped (step.On p m) → (at < p) × ((m.from ≤ m.to) × (m.to ≤ length s))
-      running-past (n, (st, (l, (k, e)))) f =
-          on-past s at p m (step_at (tell (byte_at s at) st) s at st) (step_past s at (tell (byte_at s at) st) st) (f st k)
+      pub running_past : Running K at → Stepped (step.On p m) → (at < p) × ((m.from ≤ m.to) × (m.to ≤ length s))
+      running_past (n, (st, (l, (k, e)))) f =
+          on_past s at p m (step_at (tell (byte_at s at) st) s at st) (step_past s at (tell (byte_at s at) st) st) (f st k)
 
-      pub running-on : (K' : List Item → Type 0) → ((st : List Item) → m ≡ coded st → K' st) → Running K at → at < length s →
+      pub running_on : (K' : List Item → Type 0) → ((st : List Item) → m ≡ coded st → K' st) → Running K at → at < length s →
           (byte_at s at ≡ 0 → ⊥) → Stepped (step.On p m) → Running K' p
-      running-on K' u (zero, (st, (l, (k, e)))) h b f = absurd (omega arith)
-      running-on K' u (suc n, (st, (l, (k, e)))) h b f =
-          let lt : at < p = (running-past (suc n, (st, (l, (k, e)))) f).0 in
+      running_on K' u (zero, (st, (l, (k, e)))) h b f = absurd (omega arith)
+      running_on K' u (suc n, (st, (l, (k, e)))) h b f =
+          let lt : at < p = (running_past (suc n, (st, (l, (k, e)))) f).0 in
           go (step_at (tell (byte_at s at) st) s at st) (f st k) (e ∙ run_from_step n at st b) lt l
         where
           go : (x : Next) → step.On p m ≡ step_of x → outcome_by tell s ≡ follow (run_from tell s n) x → at < p → length s ≤ at + suc n →

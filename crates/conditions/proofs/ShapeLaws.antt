@@ -164,11 +164,11 @@ module _ (f g : ℕ → List Item → Bool) (s : List ℕ) where
       go k (on p t) foreign h = absurd h
       go k (on p t) (on q u) (e, h) = k p t u h ∙ ap (λ (i : ℕ). shape_of (run_from g s n i u)) e
 
-  pub shape-alike : shape_of (outcome_by f s) ≡ shape_of (outcome_by g s)
+  pub shape_alike : shape_of (outcome_by f s) ≡ shape_of (outcome_by g s)
   unfolding outcome_by
-  shape-alike = shape_cond (opened s) _ _ _ _ (run_from_alike (length s) 4 [] [] tt) refl
+  shape_alike = shape_cond (opened s) _ _ _ _ (run_from_alike (length s) 4 [] [] tt) refl
 
 -- the shape is that of every outcome_by
 pub shape_any : (tell : ℕ → List Item → Bool) (s : List ℕ) → shape_of (outcome_by tell s) ≡ shape s
 unfolding shape
-shape_any tell s = shape-alike tell untold s
+shape_any tell s = shape_alike tell untold s

@@ -1,4 +1,4 @@
--- Laws of the operands in a word of two bits each. In order: bounds (word_lt, word-ge), one operand more (push-broken, push-on); the
+-- Laws of the operands in a word of two bits each. In order: bounds (word_lt, word_ge), one operand more (push_broken, push_on); the
 -- operators, by the lowest digits (negated-.., paired-.., answered-..), and the end (ended-..). Each goes by the cases of the operands; a
 -- digit that does not fit is refused by arithmetic. Assumes nothing.
 use Prim.Native.Nat.{ℕ, suc, ◌+◌, ◌-◌, ◌*◌, ◌/◌, ◌%◌, ◌^◌, ◌<◌, ◌≤◌}
@@ -45,9 +45,9 @@ word_ge (x ∷ st) =
 -- ---- one operand more
 
 module _ (next : ℕ) (x : Item) (st : List Item) where
-  pub push-broken : 0x3fffffffffffffff < word_of st → push next x st ≡ broken
+  pub push_broken : 0x3fffffffffffffff < word_of st → push next x st ≡ broken
   unfolding push
-  push-broken h = go (ltb (length st) deepest) refl
+  push_broken h = go (ltb (length st) deepest) refl
     where
       go : (t : Bool) → ltb (length st) deepest ≡ t → cond t (on next (x ∷ st)) broken ≡ broken
       go false e = refl
@@ -56,9 +56,9 @@ module _ (next : ℕ) (x : Item) (st : List Item) where
           let p : 4 ^ length st ≤ 4 ^ 31 = pow-le-pow_right {n = 4} (omega arith) {i = length st} {j = 31} (omega arith) in
           absurd (omega (arith, word_lt st))
 
-  pub push-on : word_of st ≤ 0x3fffffffffffffff → push next x st ≡ on next (x ∷ st)
+  pub push_on : word_of st ≤ 0x3fffffffffffffff → push next x st ≡ on next (x ∷ st)
   unfolding push
-  push-on h = go (ltb (length st) deepest) refl
+  push_on h = go (ltb (length st) deepest) refl
     where
       go : (t : Bool) → ltb (length st) deepest ≡ t → cond t (on next (x ∷ st)) broken ≡ on next (x ∷ st)
       go true e = refl
@@ -74,22 +74,22 @@ on_is next x st word from to w f t = rw (w, f, t)
 -- ---- the operands
 
 module _ (s : List ℕ) (at : ℕ) (st : List Item) where
-  pub literal-broken : literal_end s at ≡ 0 → literal s at st ≡ broken
+  pub literal_broken : literal_end s at ≡ 0 → literal s at st ≡ broken
   unfolding literal
-  literal-broken h = rw (eq-eqb (literal_end s at) 0 h)
+  literal_broken h = rw (eq-eqb (literal_end s at) 0 h)
 
-  pub literal-push : (e : ℕ) → e ≡ literal_end s at → (e ≡ 0 → ⊥) → literal s at st ≡ push e (sids at e) st
+  pub literal_push : (e : ℕ) → e ≡ literal_end s at → (e ≡ 0 → ⊥) → literal s at st ≡ push e (sids at e) st
   unfolding literal
-  literal-push e q h = rw (q, ne_eqb (literal_end s at) 0 (λ z. h (q ∙ z)))
+  literal_push e q h = rw (q, ne_eqb (literal_end s at) 0 (λ z. h (q ∙ z)))
 
-  pub composite-broken : enclosed_end s at ≡ 0 → composite s at st ≡ broken
+  pub composite_broken : enclosed_end s at ≡ 0 → composite s at st ≡ broken
   unfolding composite
-  composite-broken h = rw (eq-eqb (enclosed_end s at) 0 h)
+  composite_broken h = rw (eq-eqb (enclosed_end s at) 0 h)
 
-  pub composite-given : (e : ℕ) → e ≡ enclosed_end s at → (e ≡ 0 → ⊥) →
+  pub composite_given : (e : ℕ) → e ≡ enclosed_end s at → (e ≡ 0 → ⊥) →
       composite s at st ≡ given (literals (part s (at + 5) e)) (push e (sids (at + 5) e) st)
   unfolding composite
-  composite-given e q h = rw (q, ne_eqb (enclosed_end s at) 0 (λ z. h (q ∙ z)))
+  composite_given e q h = rw (q, ne_eqb (enclosed_end s at) 0 (λ z. h (q ∙ z)))
 
 -- ---- the operators
 

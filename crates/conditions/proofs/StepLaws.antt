@@ -1,5 +1,5 @@
 -- Laws of one token: which it is, by the tests (step-..); and that a token takes a byte at least and a list lies inside (Past, step_past,
--- on-past). Assumes nothing.
+-- on_past). Assumes nothing.
 use Prim.Native.Nat.{ℕ, ◌+◌, ◌<◌, ◌≤◌}
 use mathlib.Core.Path.{◌≡◌, refl, ap}
 use mathlib.Core.List.{List, [], ◌∷◌}
@@ -18,32 +18,32 @@ use Rattle.conditions.specs.declared.scan.Scan.{Scan}
 use Rattle.conditions.specs.declared.scan.Scan.TheVariants as scan
 use Rattle.conditions.specs.declared.stack.Stack.{Stack}
 use Rattle.conditions.specs.declared.stack.Step.TheVariants as step
-use Rattle.conditions.proofs.OperandLaws.{enclosed-bounds, literal-bounds}
+use Rattle.conditions.proofs.OperandLaws.{enclosed_bounds, literal_bounds}
 
 -- ---- which token stands at a place
 
 module _ (told : Bool) (s : List ℕ) (at : ℕ) (st : List Item) where
-  pub step-literal : byte_at s at ≡ 0x51 → step_at told s at st ≡ literal s at st
+  pub step_literal : byte_at s at ≡ 0x51 → step_at told s at st ≡ literal s at st
   unfolding step_at
-  step-literal h = rw (eq-eqb (byte_at s at) 0x51 h)
+  step_literal h = rw (eq-eqb (byte_at s at) 0x51 h)
 
-  pub step-composite : byte_at s at ≡ 0x50 → step_at told s at st ≡ composite s at st
+  pub step_composite : byte_at s at ≡ 0x50 → step_at told s at st ≡ composite s at st
   unfolding step_at
-  step-composite h = rw (ne_eqb (byte_at s at) 0x51 (λ q. omega arith), eq-eqb (byte_at s at) 0x50 h)
+  step_composite h = rw (ne_eqb (byte_at s at) 0x51 (λ q. omega arith), eq-eqb (byte_at s at) 0x50 h)
 
   module _ (l : byte_at s at ≡ 0x51 → ⊥) (c : byte_at s at ≡ 0x50 → ⊥) where
-    pub step-asks : asks (byte_at s at) ≡ true → step_at told s at st ≡ answered told (at + 1) st
+    pub step_asks : asks (byte_at s at) ≡ true → step_at told s at st ≡ answered told (at + 1) st
     unfolding step_at
-    step-asks h = rw (ne_eqb (byte_at s at) 0x51 l, ne_eqb (byte_at s at) 0x50 c, h)
+    step_asks h = rw (ne_eqb (byte_at s at) 0x51 l, ne_eqb (byte_at s at) 0x50 c, h)
 
     module _ (m : asks (byte_at s at) ≡ false) where
       pub step_both : byte_at s at ≡ 0xa0 → step_at told s at st ≡ paired true (at + 1) st
       unfolding step_at
       step_both h = rw (ne_eqb (byte_at s at) 0x51 l, ne_eqb (byte_at s at) 0x50 c, m, eq-eqb (byte_at s at) 0xa0 h)
 
-      pub step-either : byte_at s at ≡ 0xa1 → step_at told s at st ≡ paired false (at + 1) st
+      pub step_either : byte_at s at ≡ 0xa1 → step_at told s at st ≡ paired false (at + 1) st
       unfolding step_at
-      step-either h =
+      step_either h =
           rw (
             ne_eqb (byte_at s at) 0x51 l,
             ne_eqb (byte_at s at) 0x50 c,
@@ -52,9 +52,9 @@ module _ (told : Bool) (s : List ℕ) (at : ℕ) (st : List Item) where
             eq-eqb (byte_at s at) 0xa1 h,
           )
 
-      pub step-not : byte_at s at ≡ 0xa2 → step_at told s at st ≡ negated (at + 1) st
+      pub step_not : byte_at s at ≡ 0xa2 → step_at told s at st ≡ negated (at + 1) st
       unfolding step_at
-      step-not h =
+      step_not h =
           rw (
             ne_eqb (byte_at s at) 0x51 l,
             ne_eqb (byte_at s at) 0x50 c,
@@ -64,9 +64,9 @@ module _ (told : Bool) (s : List ℕ) (at : ℕ) (st : List Item) where
             eq-eqb (byte_at s at) 0xa2 h,
           )
 
-      pub step-foreign : (byte_at s at ≡ 0xa0 → ⊥) → (byte_at s at ≡ 0xa1 → ⊥) → (byte_at s at ≡ 0xa2 → ⊥) → step_at told s at st ≡ foreign
+      pub step_foreign : (byte_at s at ≡ 0xa0 → ⊥) → (byte_at s at ≡ 0xa1 → ⊥) → (byte_at s at ≡ 0xa2 → ⊥) → step_at told s at st ≡ foreign
       unfolding step_at
-      step-foreign x y z =
+      step_foreign x y z =
           rw (
             ne_eqb (byte_at s at) 0x51 l,
             ne_eqb (byte_at s at) 0x50 c,
@@ -107,7 +107,7 @@ module _ (s : List ℕ) (at : ℕ) where
       go : (t : Bool) → eqb (literal_end s at) 0 ≡ t → Past s at (cond t broken (push (literal_end s at) (sids at (literal_end s at)) st))
       go true e = tt
       go false e =
-          let b : (at + 5 ≤ literal_end s at) × (literal_end s at ≤ length s) = literal-bounds s at (eqb-false _ _ e) in
+          let b : (at + 5 ≤ literal_end s at) × (literal_end s at ≤ length s) = literal_bounds s at (eqb-false _ _ e) in
           push_past (literal_end s at) (sids at (literal_end s at)) st (omega arith) (omega arith, omega arith)
 
   given_past : (v : Scan) (x : Next) → Past s at x → Past s at (given v x)
@@ -125,7 +125,7 @@ module _ (s : List ℕ) (at : ℕ) where
           (given (literals (part s (at + 5) (enclosed_end s at))) (push (enclosed_end s at) (sids (at + 5) (enclosed_end s at)) st)))
       go true q = tt
       go false q =
-          let b : (at + 5 ≤ enclosed_end s at) × (enclosed_end s at ≤ length s) = enclosed-bounds s at (eqb-false _ _ q) in
+          let b : (at + 5 ≤ enclosed_end s at) × (enclosed_end s at ≤ length s) = enclosed_bounds s at (eqb-false _ _ q) in
           given_past (literals (part s (at + 5) (enclosed_end s at))) (push (enclosed_end s at) (sids (at + 5) (enclosed_end s at)) st)
           (push_past (enclosed_end s at) (sids (at + 5) (enclosed_end s at)) st (omega arith) (omega arith, omega arith))
 
@@ -159,11 +159,11 @@ module _ (s : List ℕ) (at : ℕ) where
       (cond_past (eqb (byte_at s at) 0xa1) _ _ (paired_past false (at + 1) st (omega arith))
       (cond_past (eqb (byte_at s at) 0xa2) _ _ (negated_past (at + 1) st (omega arith)) tt)))))
 
-  pub on-past : (p : ℕ) (m : Stack) (x : Next) → Past s at x → step.On p m ≡ step_of x →
+  pub on_past : (p : ℕ) (m : Stack) (x : Next) → Past s at x → step.On p m ≡ step_of x →
       (at < p) × ((m.from ≤ m.to) × (m.to ≤ length s))
-  on-past p m broken h e = let z : ◌≡◌ {A = ℕ} 0 1 = cc in absurd (omega arith)
-  on-past p m foreign h e = let z : ◌≡◌ {A = ℕ} 0 1 = cc in absurd (omega arith)
-  on-past p m (on q st) h e =
+  on_past p m broken h e = let z : ◌≡◌ {A = ℕ} 0 1 = cc in absurd (omega arith)
+  on_past p m foreign h e = let z : ◌≡◌ {A = ℕ} 0 1 = cc in absurd (omega arith)
+  on_past p m (on q st) h e =
       let y : p ≡ q = cc in
       let z : m ≡ coded st = cc in
       let f : m.from ≡ (coded st).from = ap (λ (k : Stack). k.from) z in

@@ -1,5 +1,5 @@
--- Laws of buffers. In order: `untouched-hit untouched-miss untouched-end`, a buffer from a place on; `puts-more puts-full puts-done`, a
--- part from a place on; `fills-more crowds-more`, one time more.
+-- Laws of buffers. In order: `untouched_hit untouched_miss untouched_end`, a buffer from a place on; `puts_more puts_full puts_done`, a
+-- part from a place on; `fills_more crowds_more`, one time more.
 -- Assumes nothing.
 use Prim.Native.Nat.{ℕ, ◌+◌, ◌≤◌, ◌<◌}
 use mathlib.Core.Path.{◌≡◌}
@@ -12,32 +12,32 @@ use lib.Seq.{drop-cons}
 use Rattle.converts.specs.Buffers.{untouched, Build, build, puts, fills, crowds}
 
 module _ (s : List ℕ) (i : ℕ) where
-  pub untouched-hit : i < length s → get_or s i 0 ≡ 170 → untouched (drop i s) ≡ untouched (drop (i + 1) s)
+  pub untouched_hit : i < length s → get_or s i 0 ≡ 170 → untouched (drop i s) ≡ untouched (drop (i + 1) s)
   unfolding untouched
-  untouched-hit h e = rw (add-one, drop-cons s i 0 h, eq-eqb (get_or s i 0) 170 e)
+  untouched_hit h e = rw (add-one, drop-cons s i 0 h, eq-eqb (get_or s i 0) 170 e)
 
-  pub untouched-miss : i < length s → (get_or s i 0 ≡ 170 → ⊥) → untouched (drop i s) ≡ false
+  pub untouched_miss : i < length s → (get_or s i 0 ≡ 170 → ⊥) → untouched (drop i s) ≡ false
   unfolding untouched
-  untouched-miss h e = rw (drop-cons s i 0 h, ne_eqb (get_or s i 0) 170 e)
+  untouched_miss h e = rw (drop-cons s i 0 h, ne_eqb (get_or s i 0) 170 e)
 
-  pub untouched-end : length s ≤ i → untouched (drop i s) ≡ true
+  pub untouched_end : length s ≤ i → untouched (drop i s) ≡ true
   unfolding untouched
-  untouched-end h = rw (drop_of_length-le s h)
+  untouched_end h = rw (drop_of_length-le s h)
 
 module _ (part out : List ℕ) (i to : ℕ) where
-  pub puts-more :
+  pub puts_more :
       i < length part → to < length out
       → puts (drop i part) (build out to) ≡ puts (drop (i + 1) part) (build (set out to (get_or part i 0)) (to + 1))
   unfolding puts
-  puts-more h l = rw (add-one i, drop-cons part i 0 h, lt-leb (length out) to l)
+  puts_more h l = rw (add-one i, drop-cons part i 0 h, lt-leb (length out) to l)
 
-  pub puts-full : i < length part → length out ≤ to → puts (drop i part) (build out to) ≡ build out to
+  pub puts_full : i < length part → length out ≤ to → puts (drop i part) (build out to) ≡ build out to
   unfolding puts
-  puts-full h l = rw (drop-cons part i 0 h, le-leb (length out) to l)
+  puts_full h l = rw (drop-cons part i 0 h, le-leb (length out) to l)
 
-  pub puts-done : length part ≤ i → puts (drop i part) (build out to) ≡ build out to
+  pub puts_done : length part ≤ i → puts (drop i part) (build out to) ≡ build out to
   unfolding puts
-  puts-done h = rw (drop_of_length-le part h)
+  puts_done h = rw (drop_of_length-le part h)
 
 pub fills_more : (part : List ℕ) (n : ℕ) (p : Build) → puts part (fills part n p) ≡ fills part (n + 1) p
 unfolding fills

@@ -1,5 +1,5 @@
--- An accepted question has the answer of the rules for the token that it holds: accepted-is. The steps before it, outermost last:
--- after-token (self identity, descriptor, policy), with-token (token), accepted-is (kind and mask).
+-- An accepted question has the answer of the rules for the token that it holds: accepted_is. The steps before it, outermost last:
+-- after_token_lem (self identity, descriptor, policy), with_token_lem (token), accepted_is (kind and mask).
 -- Assumes nothing.
 use Prim.Native.Nat.{ℕ}
 use mathlib.Core.Path.{◌≡◌, refl, ap}

@@ -1,6 +1,6 @@
--- Demand 3 over SACLs (request 105). In order: an entry that is struck out fires nothing (fires-struck), so a SACL's events are those of
--- its struck list, entry numbers aside (raised-struck); two SACLs that read the same without strangers (sacl-alike, masks_alike); the
--- rules, for the staging flag and for the events (stages-alike, rules-events-alike); all events (events-alike). Assumes nothing.
+-- Demand 3 over SACLs (request 105). In order: an entry that is struck out fires nothing (fires_struck), so a SACL's events are those of
+-- its struck list, entry numbers aside (raised_struck); two SACLs that read the same without strangers (sacl_alike, masks_alike); the
+-- rules, for the staging flag and for the events (stages_alike, rules_events_alike); all events (events_alike). Assumes nothing.
 use Prim.Native.Nat.{ℕ, ◌+◌}
 use mathlib.Core.Path.{◌≡◌, refl, sym, ap, ◌∙◌}
 use mathlib.Core.List.{List, [], ◌∷◌, ◌++◌}
@@ -77,16 +77,16 @@ module _ (s : Sought) (t : Token) (h : Hits) where
 
   -- ---- the rules
 
-  pub stages-alike : {rs qs : List Lists} → AlikeRules t rs qs → stages_audit s (crowd_of t) h rs ≡ stages_audit s (crowd_of t) h qs
+  pub stages_alike : {rs qs : List Lists} → AlikeRules t rs qs → stages_audit s (crowd_of t) h rs ≡ stages_audit s (crowd_of t) h qs
   unfolding stages_audit
-  stages-alike no_rules = refl
-  stages-alike (one_more {r = r} {q = q} a rest) =
+  stages_alike no_rules = refl
+  stages_alike (one_more {r = r} {q = q} a rest) =
       rw (
         a.stages_sacl,
         a.applies,
         masks_alike r.sacl q.sacl a.sacl,
         masks_alike r.staged_sacl q.staged_sacl a.staged_sacl,
-        stages-alike rest,
+        stages_alike rest,
       )
 
   rule_alike : (i : ℕ) (r q : Lists) → AlikeRule t r q →
@@ -112,9 +112,9 @@ module _ (s : Sought) (t : Token) (h : Hits) where
 
   -- ---- all events
 
-  pub events-alike : {rs qs : List Lists} (l k : List ℕ) → struck_audits t (audits_of l) ≡ struck_audits t (audits_of k) → AlikeRules t rs qs →
+  pub events_alike : {rs qs : List Lists} (l k : List ℕ) → struck_audits t (audits_of l) ≡ struck_audits t (audits_of k) → AlikeRules t rs qs →
       unnumbered (events_of s (crowd_of t) h l rs) ≡ unnumbered (events_of s (crowd_of t) h k qs)
-  events-alike {rs} {qs} l k e a =
+  events_alike {rs} {qs} l k e a =
       rw (
         unnumbered_append (events_in s (crowd_of t) h 0 l) (rules_events s (crowd_of t) h 1 rs),
         unnumbered_append (events_in s (crowd_of t) h 0 k) (rules_events s (crowd_of t) h 1 qs),

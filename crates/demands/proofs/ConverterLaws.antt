@@ -1,6 +1,6 @@
 -- The converters' numbers and what they write. The index:
--- conversion-status: the number given is the lowest line that holds. refused-bytes: a refusal has no bytes, so it leaves a buffer as it was
--- (refused-buffer). written, unwritten: what the exported converters leave in the lent buffer and the lent number.
+-- conversion_status: the number given is the lowest line that holds. refused_bytes: a refusal has no bytes, so it leaves a buffer as it was
+-- (refused_buffer). written, unwritten: what the exported converters leave in the lent buffer and the lent number.
 -- Assumes nothing.
 use Prim.Native.Nat.{ℕ, ◌+◌, ◌≤◌}
 use mathlib.Core.Path.{◌≡◌, refl, sym, ap, ◌∙◌}

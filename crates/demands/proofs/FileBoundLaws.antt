@@ -1,5 +1,5 @@
--- How long the trail of a question file may be: never more than 9/16 of its bytes (file-trail-bound), and so at most 36864 bytes
--- (file-trail-most). Before that: descriptor and policy stand in the file (InFile, question-inside).
+-- How long the trail of a question file may be: never more than 9/16 of its bytes (file_trail_bound), and so at most 36864 bytes
+-- (file_trail_most). Before that: descriptor and policy stand in the file (InFile, question_inside).
 -- Assumes nothing.
 use Prim.Native.Nat.{ℕ, ◌+◌, ◌*◌, ◌≤◌}
 use mathlib.Core.Path.{◌≡◌, refl}

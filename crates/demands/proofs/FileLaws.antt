@@ -1,5 +1,5 @@
 -- The question file: number 12 comes first of all, and otherwise the answer is that of the question it holds. The index:
--- file-refused, file-answered: the two cases. file-12: 12 exactly where the file is misshapen or too long. refused-file: a refusal
+-- file_refused, file_answered: the two cases. file_12: 12 exactly where the file is misshapen or too long. refused_file: a refusal
 -- grants nothing.
 -- Assumes nothing.
 use Prim.Native.Nat.{ℕ}

@@ -1,6 +1,6 @@
 -- Request 105, the report on a question file: number 12 comes first of all, and otherwise it is that of the question it holds. The index:
--- file-refused, file-reported: the two cases. file-report-12: 12 exactly where the file is misshapen or too long, in any buffer.
--- refused-file-report: a refusal has nothing. Assumes nothing.
+-- file_refused, file_reported: the two cases. file_report_12: 12 exactly where the file is misshapen or too long, in any buffer.
+-- refused_file_report: a refusal has nothing. Assumes nothing.
 use Prim.Native.Nat.{ℕ}
 use mathlib.Core.Path.{◌≡◌, refl, ap}
 use mathlib.Core.List.{List}
@@ -21,7 +21,7 @@ use Rattle.demands.specs.Conditions.{misshapen, file_misshapen}
 use Rattle.demands.specs.Conversions.{Untouched}
 use Rattle.demands.specs.Trails.{Nothing}
 use Rattle.demands.proofs.StatusLaws.{status_le, grants_nothing}
-use Rattle.demands.proofs.TrailLaws.{answer_of_lem, within, beyond, room_enough, refused_report, untouched, handed-untouched}
+use Rattle.demands.proofs.TrailLaws.{answer_of_lem, within, beyond, room_enough, refused_report, untouched, handed_untouched}
 
 pub file_refused : (s : List ℕ) → file_misshapen s ≡ true → file_report s ≡ refusal 12
 unfolding file_misshapen file_report
@@ -79,4 +79,4 @@ file_unwritten s before after t w h =
 pub file_export_unwritten : (s before after : List ℕ) (n r g a f : ℕ) →
     Followed (in_buffer (length before) (file_report s)) before after n r g a f → (r ≡ 0 → ⊥) → Untouched before after n
 file_export_unwritten s before after n r g a f w h =
-    handed-untouched (in_buffer (length before) (file_report s)) before after n r g a f w (refused_file_report (length before) s) h
+    handed_untouched (in_buffer (length before) (file_report s)) before after n r g a f w (refused_file_report (length before) s) h

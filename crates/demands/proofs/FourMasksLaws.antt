@@ -1,6 +1,6 @@
--- Request 106. In order: the masks of every answer lie one within the other (masks-narrow); a rule more leaves the first two as they were
--- (first-two-still, by found-first-two, which is of any rules); a bit that is asked and not granted is taken by one step (taken-once);
--- confinement takes nothing from a token that it does not apply to, and no rule takes nothing (unconfined-keeps, no-rule-keeps).
+-- Request 106. In order: the masks of every answer lie one within the other (masks_narrow); a rule more leaves the first two as they were
+-- (first_two_still, by found_first_two, which is of any rules); a bit that is asked and not granted is taken by one step (taken_once);
+-- confinement takes nothing from a token that it does not apply to, and no rule takes nothing (unconfined_keeps, no_rule_keeps).
 -- Assumes nothing.
 use Prim.Native.Nat.{ℕ, ◌<◌, ◌≤◌, ◌^◌}
 use mathlib.Core.Path.{◌≡◌, refl, sym, ap, ◌∙◌}

@@ -1,5 +1,5 @@
 -- Demand 3, second half: a policy that gains one rule grants no bit it did not grant before. The index:
--- found-gained: what is found has no bit more. gained-rule: so of the answer. That the rules leave no more is `ruled-within` of policy.
+-- found_gained: what is found has no bit more. gained_rule: so of the answer. That the rules leave no more is `ruled_within` of policy.
 -- Assumes nothing.
 use Prim.Native.Nat.{ℕ}
 use mathlib.Core.List.{List, ◌∷◌, ◌++◌}
@@ -13,7 +13,7 @@ use Rattle.passes.specs.Matching.{hits_of}
 use Rattle.passes.specs.NormalEvaluation.{Dacl, normal_of}
 use Rattle.passes.specs.Confinement.{confinement_of}
 use Rattle.policy.specs.Rules.{Lists, unruled}
-use Rattle.policy.proofs.RulesLaws.{ruled-within}
+use Rattle.policy.proofs.RulesLaws.{ruled_within}
 use Rattle.answers.specs.Granted.{answer_of}
 use Rattle.access.specs.Evaluated.{found_of}
 use Rattle.access.specs.Status.{Question, dacl_in, answer_to, checked}
@@ -27,7 +27,7 @@ unfolding found_of
 found_gained kind t owner self d before r after =
     let h = hits_of (crowd_of t) owner self in
     let c = and (normal_of kind (crowd_of t) h t.privileges d) (confinement_of kind t owner self d) in
-    and_mono c c _ _ (within_refl c) (ruled-within kind (crowd_of t) h t.privileges unruled before r after)
+    and_mono c c _ _ (within_refl c) (ruled_within kind (crowd_of t) h t.privileges unruled before r after)
 
 rules_gained : (p q : Question) → SameButOneRule p q → Within (by_rules q (token_in q)).granted.0 (by_rules p (token_in p)).granted.0
 unfolding answer_to answer_of

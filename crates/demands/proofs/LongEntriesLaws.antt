@@ -1,6 +1,6 @@
 -- Request 101: lists that read the same have the same answer. It follows from demand 3, with nobody struck out on one side that is not struck
--- out on the other (rule-read, rules-read, as-strangers, answer-read). They have the same events too, with their entry numbers
--- (rules-events-read, events-read). Assumes nothing.
+-- out on the other (rule_read, rules_read, as_strangers, answer_read). They have the same events too, with their entry numbers
+-- (rules_events_read, events_read). Assumes nothing.
 use Prim.Native.Nat.{ℕ, ◌+◌}
 use mathlib.Core.Path.{◌≡◌, refl, ap}
 use mathlib.Core.List.{List, [], ◌∷◌, map}

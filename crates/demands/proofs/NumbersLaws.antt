@@ -1,4 +1,4 @@
--- The numbers of the parts, from the table's own conditions: descriptor-number-is (6, 7, 8) and policy-number-is (9, 10).
+-- The numbers of the parts, from the table's own conditions: descriptor_number_is (6, 7, 8) and policy_number_is (9, 10).
 -- The idea: a part's verdict is a row of tests; a table of their values is closed by computation. Assumes nothing.
 use Prim.Native.Nat.{ℕ}
 use mathlib.Core.Path.{◌≡◌, refl}

@@ -1,6 +1,6 @@
--- Request 102, lists without their inherit-only entries. The index: names-object skipped-taken run-object; what a list gives: gives-object
--- normal-object; all rules: judged-object ruled-object stages-object; the whole: confinement-object found-object ruled-on-object
--- answer-object. Assumes nothing.
+-- Request 102, lists without their inherit-only entries. The index: names_object skipped_taken run_object; what a list gives: gives_object
+-- normal_object; all rules: judged_object ruled_object stages_object; the whole: confinement_object found_object ruled_on_object
+-- answer_object. Assumes nothing.
 use Prim.Native.Nat.{ℕ}
 use mathlib.Core.Path.{◌≡◌, refl, ap, ◌∙◌}
 use mathlib.Core.List.{List, [], ◌∷◌, map}

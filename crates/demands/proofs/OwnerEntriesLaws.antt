@@ -1,4 +1,4 @@
--- Request 102: which lists take the owner's two rights away, exactly. named_by found_in_lem named-when; one way each: named unnamed.
+-- Request 102: which lists take the owner's two rights away, exactly. named_by found_in_lem named_when; one way each: named unnamed.
 -- Assumes nothing.
 use Prim.Native.Nat.{ℕ}
 use mathlib.Core.Path.{◌≡◌, refl, ap, ◌∙◌}

@@ -1,6 +1,6 @@
--- Request 102, the owner's two rights. The index: what the owner has of them by one list: cut list-keeps list-loses; by all rules:
--- within_both rules-leave rules-narrow rules-cut; by what is found: found-keeps found-by-list found-by-rule; by all that the granted mask
--- goes by: granted-found owner-keeps granted-by owner-loses. Assumes nothing.
+-- Request 102, the owner's two rights. The index: what the owner has of them by one list: cut list_keeps list_loses; by all rules:
+-- within_both rules_leave rules_narrow rules_cut; by what is found: found_keeps found_by_list found_by_rule; by all that the granted mask
+-- goes by: granted_found owner_keeps granted_by owner_loses. Assumes nothing.
 use Prim.Native.Nat.{ℕ}
 use mathlib.Core.Path.{◌≡◌, refl, ap, ap₂, ◌∙◌}
 use mathlib.Core.List.{List, [], ◌∷◌, ◌++◌}

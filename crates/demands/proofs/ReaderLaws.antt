@@ -1,7 +1,7 @@
 -- What a reader of the page expects, over the definitions. The index:
--- identities: same-iff, zero-word-counts. Virtual owner or self: virtual-misses empty-misses owner-misses self-misses.
--- Lists: null-gives empty-gives (a null list and an empty one). 0x01000000: gives-within no-list-gives.
--- Confinement: nothing-given-back confined-loses. Assumes nothing.
+-- identities: same_iff, zero_word_counts. Virtual owner or self: virtual_misses empty_misses owner_misses self_misses.
+-- Lists: null_gives empty_gives (a null list and an empty one). 0x01000000: gives_within no_list_gives.
+-- Confinement: nothing_given_back confined_loses. Assumes nothing.
 use Prim.Native.Nat.{ℕ}
 use mathlib.Core.Path.{◌≡◌, refl}
 use mathlib.Core.List.{List, [], ◌∷◌}
@@ -24,8 +24,8 @@ use Rattle.passes.specs.Confinement.{confines, confinement_of}
 use Rattle.passes.specs.declared.matching.Hit.{Hit}
 use Rattle.passes.specs.declared.matching.Hits.{Hits}
 use Rattle.masks.proofs.MasksLaws.{all_bits_high, within_false}
-use Rattle.passes.proofs.MatchingLaws.{stands-virtual}
-use Rattle.passes.proofs.OnePassLaws.{passed-within}
+use Rattle.passes.proofs.MatchingLaws.{stands_virtual}
+use Rattle.passes.proofs.OnePassLaws.{passed_within}
 use Rattle.policy.specs.Rules.{Lists, rules_of, ruled_by}
 use Rattle.answers.specs.Granted.{answer_of}
 use Rattle.access.specs.Evaluated.{found_of}
@@ -56,7 +56,7 @@ abbrev pub no_hit : Hit
 no_hit = record { allow = false; deny = false }
 
 pub virtual_misses : (ms : List Member) (w : List ℕ) → virtual w ≡ true → hit_of ms w ≡ no_hit
-virtual_misses ms w v = rw (stands-virtual true ms w v, stands-virtual false ms w v)
+virtual_misses ms w v = rw (stands_virtual true ms w v, stands_virtual false ms w v)
 
 pub empty_misses : (ms : List Member) → hit_of ms [] ≡ no_hit
 unfolding stands
@@ -87,7 +87,7 @@ pub gives_within : (kind : ℕ) (ms : List Member) (h : Hits) (d : Dacl) → Wit
 gives_within kind ms h d = go d.present
   where
     go : (b : Bool) → Within (cond b (passed kind ms h d.entries) (all_bits kind)) (all_bits kind)
-    go true = passed-within kind ms h d.entries
+    go true = passed_within kind ms h d.entries
     go false = within_refl (all_bits kind)
 
 -- whatever its mask, no entry gives 0x01000000, nor does a null list

@@ -1,4 +1,4 @@
--- A rule's effective SACL: where it stands (SectionAt; SaclAt, rule-sacl-at), and that it is short (sacl-short).
+-- A rule's effective SACL: where it stands (SectionAt; SaclAt, rule_sacl_at), and that it is short (sacl_short).
 -- Assumes nothing.
 use Prim.Native.Nat.{ℕ, ◌+◌, ◌<◌, ◌≤◌}
 use mathlib.Core.Path.{◌≡◌, refl, ap}
@@ -10,7 +10,7 @@ use lib.Pow.{are_bytes}
 use lib.ListN.{length}
 use borrow.Author.Tests.{eqb-true, eqb-false, ltb-false}
 use Rattle.base.specs.Bytes.{u16_at, u32_at}
-use Rattle.base.proofs.WordsLaws.{u16-at-lt}
+use Rattle.base.proofs.WordsLaws.{u16_at_lt}
 use Rattle.lists.specs.Acl.{acl_end, scan_of}
 use Rattle.lists.proofs.AclSteps.{AclAt, acl_at}
 use Rattle.conditions.specs.Scanning.{is_broken}
@@ -19,8 +19,8 @@ use Rattle.conditions.specs.declared.scan.Scan.TheVariants.{Broken, Plain}
 use Rattle.policy.specs.Policy.{section_at, section, bytes_of, acl_section, maybe_acl, no_rule, rule_of, rule_at}
 use Rattle.policy.specs.declared.sections.Section.{Section}
 use Rattle.policy.specs.declared.one_rule.Rule.{Rule}
-use Rattle.policy.proofs.OneRuleSteps.{applies_in, list_in, maybe_in, rule-applies, rule-dacl, rule-sacl, rule-staged}
-use Rattle.policy.proofs.OneRuleSteps.{rule-last, rule-whole}
+use Rattle.policy.proofs.OneRuleSteps.{applies_in, list_in, maybe_in, rule_applies, rule_dacl, rule_sacl, rule_staged}
+use Rattle.policy.proofs.OneRuleSteps.{rule_last, rule_whole}
 
 -- ---- where it stands
 
@@ -84,11 +84,11 @@ module _ (p : List ℕ) (applies dacl sacl staged last : Section) where
       go : (a : Bool) → is_broken (applies_in p applies) ≡ a →
           (d : Bool) → is_broken (list_in p dacl) ≡ d → (x : Bool) → is_broken (maybe_in false p sacl) ≡ x →
           (t : Bool) → is_broken (maybe_in true p staged) ≡ t → (y : Bool) → is_broken (maybe_in false p last) ≡ y → Whole
-      go true ea d ed x ex t et y ey = absurd (no (rule-applies p applies dacl sacl staged last ea))
-      go false ea true ed x ex t et y ey = absurd (no (rule-dacl p applies dacl sacl staged last ea ed))
-      go false ea false ed true ex t et y ey = absurd (no (rule-sacl p applies dacl sacl staged last ea ed ex))
-      go false ea false ed false ex true et y ey = absurd (no (rule-staged p applies dacl sacl staged last ea ed ex et))
-      go false ea false ed false ex false et true ey = absurd (no (rule-last p applies dacl sacl staged last ea ed ex et ey))
+      go true ea d ed x ex t et y ey = absurd (no (rule_applies p applies dacl sacl staged last ea))
+      go false ea true ed x ex t et y ey = absurd (no (rule_dacl p applies dacl sacl staged last ea ed))
+      go false ea false ed true ex t et y ey = absurd (no (rule_sacl p applies dacl sacl staged last ea ed ex))
+      go false ea false ed false ex true et y ey = absurd (no (rule_staged p applies dacl sacl staged last ea ed ex et))
+      go false ea false ed false ex false et true ey = absurd (no (rule_last p applies dacl sacl staged last ea ed ex et ey))
       go false ea false ed false ex false et false ey = record { first = ea; second = ed; third = ex; fourth = et; fifth = ey }
 
   sacl_of_lem : (at : ℕ) → applies ≡ section_at p at → dacl ≡ section_at p applies.to → sacl ≡ section_at p dacl.to →
@@ -103,7 +103,7 @@ module _ (p : List ℕ) (applies dacl sacl staged last : Section) where
       let in-t : SectionAt p sacl.to staged =
       rw t (section_at_lem p sacl.to (rw (← t) (unbroken staged.to _ w.fourth).0)) in
       let in-y : SectionAt p staged.to last = rw y (section_at_lem p staged.to (rw (← y) (unbroken last.to _ w.fifth).0)) in
-      rw (rule-whole p applies dacl sacl staged last w.first w.second w.third w.fourth w.fifth)
+      rw (rule_whole p applies dacl sacl staged last w.first w.second w.third w.fourth w.fifth)
       (record {
         after = omega (arith, in-a.after, in-a.lies, in-d.after, in-d.lies, in-x.after);
         lies = in-x.lies;
@@ -137,5 +137,5 @@ sacl_short l bytes h =
     go false ea false eb true ec f =
         let a : AclAt l 0 = acl_at l 0 (eqb-false _ _ eb) in
         let e : acl_end l 0 ≡ length l = eqb-true _ _ ec in
-        let u : u16_at l (0 + 2) < 65536 = u16-at-lt l (0 + 2) bytes in
+        let u : u16_at l (0 + 2) < 65536 = u16_at_lt l (0 + 2) bytes in
         omega (arith, a.ends, e, u)

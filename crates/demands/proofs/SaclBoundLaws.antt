@@ -1,6 +1,6 @@
--- How long a trail may be. In order: an event's bytes (packed-two, event-bytes-le), those of all (trail-append); the entries of a SACL, one
--- by one (found_spot, audits-none, audits-other, audits-found, audit-long), and its events (sacl-bound); the events of all rules
--- (rules-bound).
+-- How long a trail may be. In order: an event's bytes (packed_two, event_bytes_le), those of all (trail_append); the entries of a SACL, one
+-- by one (found_spot, audits_none, audits_other, audits_found, audit_long), and its events (sacl_bound); the events of all rules
+-- (rules_bound).
 -- An event takes at most 9 bytes, and the entry that fires at least 16: so 16 bytes of a SACL pay for 9 bytes of the trail. An entry of any
 -- type takes at least 4, so an entry's number takes at most two bytes, as a rule's number does.
 -- Not here: where a rule's SACL stands, RuleSaclLaws. Assumes nothing.
@@ -16,13 +16,13 @@ use borrow.Author.Tests.{eq-eqb, ne_eqb, eqb-true, eqb-false}
 use Rattle.base.specs.Bytes.{byte_at, u16_at, u32_at}
 use Rattle.base.specs.Sevens.{packed}
 use Rattle.base.proofs.BytesLaws.{length_part, bytes_part}
-use Rattle.base.proofs.WordsLaws.{u32-at-lt}
+use Rattle.base.proofs.WordsLaws.{u32_at_lt}
 use Rattle.base.proofs.SevensLaws.{packed_length, packed_length_32}
 use Rattle.sids.specs.Sid.{sid_end}
 use Rattle.sids.proofs.SidLaws.{sid_end_bounds}
 use Rattle.lists.specs.Acl.{audits, entry_end}
-use Rattle.lists.proofs.TypeLaws.{judges-shallow}
-use Rattle.lists.proofs.EntrySteps.{entry-end-bounds, judged-sid, judged-fits}
+use Rattle.lists.proofs.TypeLaws.{judges_shallow}
+use Rattle.lists.proofs.EntrySteps.{entry_end_bounds, judged_sid, judged_fits}
 use Rattle.records.specs.Crowd.{Member}
 use Rattle.passes.specs.declared.matching.Hits.{Hits}
 use Rattle.policy.specs.Policy.{bytes_of, rule_at}
@@ -74,27 +74,27 @@ module _ (l : List ℕ) (n at : ℕ) where
         next = entry_end false l at;
       }
 
-  pub audits-none : entry_end false l at ≡ 0 → audits_at l (suc n) at ≡ []
+  pub audits_none : entry_end false l at ≡ 0 → audits_at l (suc n) at ≡ []
   unfolding audits_at spot_at
-  audits-none h = rw (eq-eqb (entry_end false l at) 0 h)
+  audits_none h = rw (eq-eqb (entry_end false l at) 0 h)
 
   module _ (there : entry_end false l at ≡ 0 → ⊥) where
-    pub audits-other : audits (byte_at l at) ≡ false →
+    pub audits_other : audits (byte_at l at) ≡ false →
         audits_at l (suc n) at ≡ audit_of l (other_spot (entry_end false l at)) ∷ audits_at l n (entry_end false l at)
     unfolding audits_at spot_at
-    audits-other a = rw (ne_eqb (entry_end false l at) 0 there, a, ne_eqb (entry_end false l at) 0 there)
+    audits_other a = rw (ne_eqb (entry_end false l at) 0 there, a, ne_eqb (entry_end false l at) 0 there)
 
-    pub audits-found : audits (byte_at l at) ≡ true →
+    pub audits_found : audits (byte_at l at) ≡ true →
         audits_at l (suc n) at ≡ audit_of l found_spot ∷ audits_at l n (entry_end false l at)
     unfolding audits_at spot_at
-    audits-found a = rw (ne_eqb (entry_end false l at) 0 there, a, ne_eqb (entry_end false l at) 0 there)
+    audits_found a = rw (ne_eqb (entry_end false l at) 0 there, a, ne_eqb (entry_end false l at) 0 there)
 
 -- an audit entry takes at least 16 bytes
 pub audit_long : (l : List ℕ) (at : ℕ) → audits (byte_at l at) ≡ true → (entry_end false l at ≡ 0 → ⊥) → at + 16 ≤ entry_end false l at
 audit_long l at a h =
-    let j = judges-shallow (byte_at l at) ∙ a in
-    let s = (sid_end_bounds l (at + 8) (judged-sid false l at j h)).0 in
-    let f = judged-fits false l at j h in
+    let j = judges_shallow (byte_at l at) ∙ a in
+    let s = (sid_end_bounds l (at + 8) (judged_sid false l at j h)).0 in
+    let f = judged_fits false l at j h in
     omega (arith, s, f)
 
 -- ---- the events of a SACL
@@ -124,24 +124,24 @@ module _ (s : Sought) (ms : List Member) (h : Hits) (source : ℕ) (few : source
         go : (z : Bool) → eqb (entry_end false l at) 0 ≡ z → (a : Bool) → audits (byte_at l at) ≡ a →
             (4 * (k + 1) + 8 ≤ entry_end false l at → 16 * length (trail_bytes rest) ≤ 9 * (length l - entry_end false l at)) →
             16 * length (trail_bytes (events_from s ms h source k (audits_at l (suc n) at))) ≤ 9 * (length l - at)
-        go true e a f ih = rw (audits-none l n at (eqb-true _ _ e)) (omega arith)
+        go true e a f ih = rw (audits_none l n at (eqb-true _ _ e)) (omega arith)
         go false e false f ih =
             let there = eqb-false _ _ e in
-            let b = entry-end-bounds false l at there in
+            let b = entry_end_bounds false l at there in
             let r : 16 * length (trail_bytes rest) ≤ 9 * (length l - entry_end false l at) = ih (omega (arith, b.0)) in
-            rw (audits-other l n at there f) (omega (arith, b.0, b.1, r))
+            rw (audits_other l n at there f) (omega (arith, b.0, b.1, r))
         go false e true f ih =
             let there = eqb-false _ _ e in
-            let b = entry-end-bounds false l at there in
+            let b = entry_end_bounds false l at there in
             let w : at + 16 ≤ entry_end false l at = audit_long l at f there in
             let r : 16 * length (trail_bytes rest) ≤ 9 * (length l - entry_end false l at) = ih (omega (arith, b.0)) in
             let t = fires s ms h (audit_of l (found_spot l n at)) in
-            let o = one_more k (u32_at l (at + 4)) t rest (omega (arith, b.1)) (u32-at-lt l (at + 4) bytes) in
-            rw (audits-found l n at there f) (omega (arith, b.1, w, r, o))
+            let o = one_more k (u32_at l (at + 4)) t rest (omega (arith, b.1)) (u32_at_lt l (at + 4) bytes) in
+            rw (audits_found l n at there f) (omega (arith, b.1, w, r, o))
 
-    pub sacl-bound : 16 * length (trail_bytes (events_in s ms h source l)) ≤ 9 * length l
+    pub sacl_bound : 16 * length (trail_bytes (events_in s ms h source l)) ≤ 9 * length l
     unfolding audits_of
-    sacl-bound = let b = from_bound (u16_at l 4) 0 8 (omega arith) in omega (arith, b)
+    sacl_bound = let b = from_bound (u16_at l 4) 0 8 (omega arith) in omega (arith, b)
 
 -- ---- the events of all rules
 
@@ -160,15 +160,15 @@ module _ (s : Sought) (ms : List Member) (h : Hits) (p : List ℕ) (bytes : T (a
           let b = bytes_part p (rule_at p at).sacl.from (rule_at p at).sacl.to bytes in
           let n : length sacl ≡ (rule_at p at).sacl.to - (rule_at p at).sacl.from =
           length_part p (rule_at p at).sacl.from (rule_at p at).sacl.to x.lies (omega (arith, x.before, x.inside)) in
-          let o = sacl-bound s ms h i few sacl b (sacl_short sacl b x.shaped) in
+          let o = sacl_bound s ms h i few sacl b (sacl_short sacl b x.shaped) in
           omega (arith, o, n, x.after, x.before)
       go false = let x : SaclAt p at (rule_at p at) = rule_sacl_at p at there in omega (arith, x.after, x.lies, x.before)
 
-  pub rules-bound : (n i at : ℕ) → i + n ≤ 16384 →
+  pub rules_bound : (n i at : ℕ) → i + n ≤ 16384 →
       16 * length (trail_bytes (rules_events s ms h i (rules_at p n at))) ≤ 9 * (length p - at)
   unfolding rules_events rules_at trail_bytes
-  rules-bound zero i at few = omega arith
-  rules-bound (suc n) i at few = go (eqb (rule_at p at).next 0) refl (rules-bound n (i + 1) (rule_at p at).next (omega arith))
+  rules_bound zero i at few = omega arith
+  rules_bound (suc n) i at few = go (eqb (rule_at p at).next 0) refl (rules_bound n (i + 1) (rule_at p at).next (omega arith))
     where
       one : List Event
       one = rule_events s ms h i (lists_of p (rule_at p at))

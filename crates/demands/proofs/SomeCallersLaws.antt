@@ -1,7 +1,7 @@
 -- Request 103. In order: every entry of an accepted list is conditioned (conditioned); an entry whose condition is false says nothing
--- (silent), and with a true one it does what it would without (spoken); S-1-3-4 is named with any condition (owner-named); a stranger's
--- entry is struck out with any (stranger-struck); a rule that does not apply changes no answer (ruled-apart, found-apart, stages-apart,
--- ruled-on-apart, rule-apart). Assumes nothing.
+-- (silent), and with a true one it does what it would without (spoken); S-1-3-4 is named with any condition (owner_named); a stranger's
+-- entry is struck out with any (stranger_struck); a rule that does not apply changes no answer (ruled_apart, found_apart, stages_apart,
+-- ruled_on_apart, rule_apart). Assumes nothing.
 use Prim.Native.Nat.{ℕ, zero, suc}
 use mathlib.Core.Path.{◌≡◌, refl, sym, ap, subst, ◌∙◌}
 use mathlib.Core.List.{List, [], ◌∷◌, ◌++◌}
@@ -10,12 +10,12 @@ use Rattle.base.specs.Bytes.{u16_at}
 use Rattle.base.proofs.BoolLaws.{true_false}
 use Rattle.conditions.specs.Condition.{shape}
 use Rattle.conditions.specs.Membership.{admits}
-use Rattle.conditions.proofs.MembershipLaws.{admits-none}
+use Rattle.conditions.proofs.MembershipLaws.{admits_none}
 use Rattle.conditions.specs.declared.scan.Scan.{Scan}
 use Rattle.conditions.specs.declared.scan.Scan.TheVariants.{Plain}
 use Rattle.lists.specs.Acl.{callback, scan_of, Entry, ace_at, condition_of, entry_of, entries_at, entries_of}
 use Rattle.lists.specs.Descriptor.{owner_of}
-use Rattle.lists.proofs.AclLaws.{All, judged_of, content_of_lem, entries-more, Plainly, plain_of_scan, plain_more}
+use Rattle.lists.proofs.AclLaws.{All, judged_of, content_of_lem, entries_more, Plainly, plain_of_scan, plain_more}
 use Rattle.records.specs.Token.{Token}
 use Rattle.records.specs.Crowd.{Member, crowd_of}
 use Rattle.masks.specs.declared.tally.Tally.{Tally}
@@ -25,7 +25,7 @@ use Rattle.passes.specs.NormalEvaluation.{Dacl, names_owner}
 use Rattle.passes.specs.declared.matching.Hits.{Hits}
 use Rattle.policy.specs.Rules.{Lists, applies_to, judged_by, ruled_from}
 use Rattle.policy.specs.declared.rules.Ruled.{Ruled}
-use Rattle.policy.proofs.RulesSteps.{judged-passed}
+use Rattle.policy.proofs.RulesSteps.{judged_passed}
 use Rattle.audit.specs.Events.{rule_stages, stages_audit}
 use Rattle.audit.specs.declared.firing.Sought.{Sought}
 use Rattle.answers.specs.Granted.{answer_of, flagged}
@@ -53,7 +53,7 @@ unfolding entries_at
 entries_conditioned l zero at p = tt
 entries_conditioned l (suc n) at p =
     let o = plain_more l n at p in
-    rw (entries-more l n at o.some)
+    rw (entries_more l n at o.some)
     (entry_conditioned l at (sym (content_of_lem l at o.some) ∙ o.content), entries_conditioned l n (ace_at l at).next o.rest)
 
 one_of : (P : Entry → Type 0) (before : List Entry) (e : Entry) (after : List Entry) → All P (before ++ e ∷ after) → P e
@@ -81,7 +81,7 @@ silent kind ms h t e f = rw (f, and-false _) (go (skipped e))
 pub spoken : (kind : ℕ) (ms : List Member) (h : Hits) (t : Tally) (e : Entry) → admits (member ms h) e.condition ≡ true →
     taken kind ms h t e ≡ taken kind ms h t (conditioned_by [] e)
 unfolding taken
-spoken kind ms h t e f = rw (f, admits-none (member ms h))
+spoken kind ms h t e f = rw (f, admits_none (member ms h))
 
 -- whether S-1-3-4 is named does not depend on a condition
 pub owner_named : (c : List ℕ) (e : Entry) (es : List Entry) → names_owner (conditioned_by c e ∷ es) ≡ names_owner (e ∷ es)
@@ -99,7 +99,7 @@ module _ (kind : ℕ) (ms : List Member) (h : Hits) (p : ℕ) where
   ruled_apart : (before : List Lists) (r : Lists) (after : List Lists) (st : Ruled) → applies_to ms h r ≡ false →
       ruled_from kind ms h p st (before ++ r ∷ after) ≡ ruled_from kind ms h p st (before ++ after)
   unfolding ruled_from
-  ruled_apart [] r after st a = ap (λ (x : Ruled). ruled_from kind ms h p x after) (judged-passed kind ms h p st r a)
+  ruled_apart [] r after st a = ap (λ (x : Ruled). ruled_from kind ms h p x after) (judged_passed kind ms h p st r a)
   ruled_apart (x ∷ before) r after st a = ruled_apart before r after (judged_by kind ms h p st x) a
 
 found_apart : (kind : ℕ) (t : Token) (owner self : List ℕ) (d : Dacl) (before : List Lists) (r : Lists) (after : List Lists) →

@@ -1,7 +1,7 @@
 -- The status number is the lowest line of the table that holds. The index:
--- status-is: the number given. accepted-when: 0 exactly where no line holds. status-le: a check gives no number above 10.
--- refused-nothing, grants-nothing, refused-grants-nothing: a refusal has every mask 0, allowed no, flag clear.
--- granted-cases, granted-asked: no granted bit lies outside the bits asked.
+-- status_is: the number given. accepted_when: 0 exactly where no line holds. status_le: a check gives no number above 10.
+-- refused_nothing, grants_nothing, refused_grants_nothing: a refusal has every mask 0, allowed no, flag clear.
+-- granted_cases, granted_asked: no granted bit lies outside the bits asked.
 -- Not here: the numbers of descriptor and policy, NumbersLaws; question files, FileLaws. Assumes nothing.
 use Prim.Native.Nat.{ℕ, ◌≤◌}
 use mathlib.Core.Path.{◌≡◌, refl, sym, ◌∙◌}

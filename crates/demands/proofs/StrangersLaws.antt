@@ -1,6 +1,6 @@
 -- Demand 3, first half: entries of strangers change no answer, and no event but in its entry number. The index, from a list up to the
--- answer: a list without its strangers: taken-stranger run-struck names-struck; two lists that read the same without: passed-alike
--- normal-alike. The whole: ruled-alike found_alike lists-alike rules-alike answer-strangers events-strangers. Not here: that a stranger
+-- answer: a list without its strangers: taken_stranger run_struck names_struck; two lists that read the same without: passed_alike
+-- normal_alike. The whole: ruled_alike found_alike lists_alike rules_alike answer_strangers events_strangers. Not here: that a stranger
 -- matches nobody, UnknownLaws; SACLs, AuditStrangersLaws. Assumes nothing.
 use Prim.Native.Nat.{ℕ}
 use mathlib.Core.Path.{◌≡◌, refl, sym, ap, ◌∙◌}
@@ -27,7 +27,7 @@ use Rattle.demands.specs.Strangers.{known, struck, AlikeRule, AlikeRules, SameBu
 use Rattle.demands.specs.Strangers.AlikeRules.{no_rules, one_more}
 use Rattle.demands.proofs.AcceptedLaws.{accepted_is}
 use Rattle.demands.proofs.UnknownLaws.{Stranger, known_false, Deaf, deaf_crowd, deaf_confined}
-use Rattle.demands.proofs.AuditStrangersLaws.{stages-alike, events-alike}
+use Rattle.demands.proofs.AuditStrangersLaws.{stages_alike, events_alike}
 
 -- ---- a list without its strangers
 
@@ -139,7 +139,7 @@ unfolding answer_to
 rules_alike p q s =
     ap (λ (a : Answer). flagged a (raised_for p (token_in p))) (lists_alike p q s)
     ∙ ap (flagged (by_lists q (token_in q)))
-    (rw (sought_alike p q s, ← s.token, ← s.self, ← s.owner) (stages-alike _ (token_in p) (hits_for p (token_in p)) s.rules))
+    (rw (sought_alike p q s, ← s.token, ← s.self, ← s.owner) (stages_alike _ (token_in p) (hits_for p (token_in p)) s.rules))
 
 pub answer_strangers : (p q : Question) → Accepted p → Accepted q → SameButStrangers p q → checked p ≡ checked q
 answer_strangers p q a b s = accepted_is p a ∙ rules_alike p q s ∙ sym (accepted_is q b)
@@ -147,7 +147,7 @@ answer_strangers p q a b s = accepted_is p a ∙ rules_alike p q s ∙ sym (acce
 pub events_strangers : (p q : Question) → SameButStrangers p q → unnumbered (events_given p) ≡ unnumbered (events_given q)
 events_strangers p q s =
     rw (sought_alike p q s, ← s.token, ← s.self, ← s.owner)
-    (events-alike _ (token_in p) (hits_for p (token_in p)) (sacl_of p.descriptor) (sacl_of q.descriptor) s.sacl s.rules)
+    (events_alike _ (token_in p) (hits_for p (token_in p)) (sacl_of p.descriptor) (sacl_of q.descriptor) s.sacl s.rules)
 
 pub strangers_both : (p q : Question) → Accepted p → Accepted q → SameButStrangers p q →
     (checked p ≡ checked q) × (unnumbered (events_given p) ≡ unnumbered (events_given q))

@@ -1,7 +1,7 @@
--- How long the trail of a question may be: never more than 9/16 of the bytes of descriptor and policy together (trail-bound), and so at
--- most 184319 bytes (trail-most).
--- In order: what an accepted question's descriptor and policy are (PartsFit, accepted-parts), how long a SACL, a descriptor and a policy
--- are (sacl-inside, descriptor-short, Sized, policy-sized), the trail.
+-- How long the trail of a question may be: never more than 9/16 of the bytes of descriptor and policy together (trail_bound), and so at
+-- most 184319 bytes (trail_most).
+-- In order: what an accepted question's descriptor and policy are (PartsFit, accepted_parts), how long a SACL, a descriptor and a policy
+-- are (sacl_inside, descriptor_short, Sized, policy_sized), the trail.
 -- Not here: question files, FileBoundLaws. Assumes nothing.
 use Prim.Native.Nat.{ℕ, ◌+◌, ◌*◌, ◌≤◌}
 use mathlib.Core.Path.{◌≡◌, refl}
@@ -16,12 +16,12 @@ use Rattle.base.specs.Bytes.{Read, byte_at, u16_at, u32_at}
 use Rattle.base.specs.Bytes.Read.{none, some}
 use Rattle.base.specs.Bits.{has}
 use Rattle.base.proofs.BytesLaws.{length_part, bytes_part}
-use Rattle.base.proofs.WordsLaws.{u32-at-out}
+use Rattle.base.proofs.WordsLaws.{u32_at_out}
 use Rattle.lists.specs.Descriptor as descriptor
 use Rattle.lists.specs.Descriptor.{heading, parts_of, sacl_of}
 use Rattle.lists.specs.declared.descriptor.Verdict.{Verdict}
 use Rattle.lists.specs.declared.descriptor.Verdict.TheVariants as verdict
-use Rattle.lists.proofs.DescriptorLaws.{parts_bounds, whole-heading}
+use Rattle.lists.proofs.DescriptorLaws.{parts_bounds, whole_heading}
 use Rattle.records.specs.Token.{Token}
 use Rattle.records.specs.Crowd.{Member}
 use Rattle.records.specs.TokenRecord.{read_record}
@@ -36,7 +36,7 @@ use Rattle.policy.specs.declared.shape.Standing.TheVariants.{Sound, Misshapen, U
 use Rattle.audit.specs.Events.{events_in, rules_events, events_of}
 use Rattle.audit.specs.Trail.{trail_bytes}
 use Rattle.audit.specs.declared.firing.Sought.{Sought}
-use Rattle.demands.proofs.SaclBoundLaws.{trail_append, sacl-bound, rules-bound}
+use Rattle.demands.proofs.SaclBoundLaws.{trail_append, sacl_bound, rules_bound}
 use Rattle.answers.specs.Granted.{refused}
 use Rattle.access.specs.Status.{Question, self_fits, descriptor_number, policy_number, answer_to, after_token, with_token, checked}
 use Rattle.access.specs.Status.{events_for}
@@ -77,9 +77,9 @@ module _ (q : Question) where
       go true k = after_token_lem t k
       go false k = absurd (omega arith)
 
-  pub accepted-parts : (checked q).status ≡ 0 → PartsFit q
+  pub accepted_parts : (checked q).status ≡ 0 → PartsFit q
   unfolding checked
-  accepted-parts h = go (known_kind q.kind) (legal q.kind q.mask) h
+  accepted_parts h = go (known_kind q.kind) (legal q.kind q.mask) h
     where
       go : (x y : Bool) → (cond x (cond y (with_token q (read_record q.token)) (refused 2)) (refused 1)).status ≡ 0 → PartsFit q
       go true true k = with_token_lem (read_record q.token) k
@@ -107,7 +107,7 @@ unfolding heading
 descriptor_short d h =
     go (ltb (length d) 20) (ltb 65535 (length d)) refl
     (cond (eqb (byte_at d 0) 1) (has (u16_at d 2) 0x8000) false)
-    (whole-heading d (whole_of (parts_of d).verdict h))
+    (whole_heading d (whole_of (parts_of d).verdict h))
   where
     go : (a b : Bool) → ltb 65535 (length d) ≡ b → (r : Bool) → cond a false (cond b false r) ≡ true → length d ≤ 65535
     go true b e r k = let z : ◌≡◌ {A = ℕ} 0 1 = cc in absurd (omega arith)
@@ -146,7 +146,7 @@ policy_sized p h =
         ≡ Sound → Sized p
     go true ea b eb c d e ee k =
         let z : length p ≡ 0 = eqb-true _ _ ea in
-        let u : u32_at p 1 ≡ 0 = u32-at-out p 1 (omega arith) in
+        let u : u32_at p 1 ≡ 0 = u32_at_out p 1 (omega arith) in
         record { short = omega arith; few = omega arith }
     go false ea true eb c d e ee k = let z : ◌≡◌ {A = ℕ} 0 1 = cc in absurd (omega arith)
     go false ea false eb true d e ee k = let z : ◌≡◌ {A = ℕ} 0 1 = cc in absurd (omega arith)
@@ -164,14 +164,14 @@ module _ (s : Sought) (ms : List Member) (h : Hits) where
     where
       go : (z : Bool) → 16 * length (trail_bytes (rules_events s ms h 1 (cond z [] (rules_at p (u32_at p 1) 5)))) ≤ 9 * length p
       go true = omega arith
-      go false = let r = rules-bound s ms h p b (u32_at p 1) 1 5 (omega arith) in omega (arith, r)
+      go false = let r = rules_bound s ms h p b (u32_at p 1) 1 5 (omega arith) in omega (arith, r)
 
   events_bound : (d p : List ℕ) → T (are_bytes d) → T (are_bytes p) → length d ≤ 65535 → u32_at p 1 ≤ 256 →
       16 * length (trail_bytes (events_of s ms h (sacl_of d) (rules_of p))) ≤ 9 * (length d + length p)
   events_bound d p b c short few =
       let n : length (sacl_of d) ≤ length d = sacl_inside d in
       let x =
-      sacl-bound s ms h 0 (omega arith) (sacl_of d) (bytes_part d (parts_of d).sacl.from (parts_of d).sacl.to b) (omega (arith, n)) in
+      sacl_bound s ms h 0 (omega arith) (sacl_of d) (bytes_part d (parts_of d).sacl.from (parts_of d).sacl.to b) (omega (arith, n)) in
       let y = policy_bound p c few in
       let a = trail_append (events_in s ms h 0 (sacl_of d)) (rules_events s ms h 1 (rules_of p)) in
       omega (arith, n, x, y, a)
@@ -194,7 +194,7 @@ module _ (q : Question) (b : T (are_bytes q.descriptor)) (c : T (are_bytes q.pol
   bound_for : (t : Token) → (checked q).status ≡ 0 →
       16 * length (trail_bytes (events_for q t)) ≤ 9 * (length q.descriptor + length q.policy)
   bound_for t h =
-      let f = accepted-parts q h in
+      let f = accepted_parts q h in
       events_bound _ _ _ q.descriptor q.policy b c
       (descriptor_short q.descriptor f.0) (policy_sized q.policy f.1).few
 
@@ -207,7 +207,7 @@ module _ (q : Question) (b : T (are_bytes q.descriptor)) (c : T (are_bytes q.pol
   trail_most =
       let m : 16 * length (report_of q).trail ≤ 9 * (65535 + 262144) =
       answered (9 * (65535 + 262144)) (λ t h.
-      let f = accepted-parts q h in
+      let f = accepted_parts q h in
       let x : length q.descriptor ≤ 65535 = descriptor_short q.descriptor f.0 in
       let y : length q.policy ≤ 262144 = (policy_sized q.policy f.1).short in
       let z = bound_for t h in

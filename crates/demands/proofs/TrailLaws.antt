@@ -1,8 +1,8 @@
 -- Request 105, reports: the answer and its trail, in a buffer of n bytes. In order: the trail of a refused question, and of an accepted one
--- (refused-trail, trail_is, flag_is); a report that fits, and one that does not (room-enough, beyond); the number given is the lowest
--- line that holds (report-status); a refusal has nothing (refused-report); an accepted one is whole (accepted-report); 11 exactly where
--- the trail is too long (eleven-only); lists that read the same (report-read); what stands in the lent buffer (trail-written,
--- trail-unwritten). Not here: question files, FileTrailLaws. Assumes nothing.
+-- (refused_trail, trail_is, flag_is); a report that fits, and one that does not (room_enough, beyond); the number given is the lowest
+-- line that holds (report_status); a refusal has nothing (refused_report); an accepted one is whole (accepted_report); 11 exactly where
+-- the trail is too long (eleven_only); lists that read the same (report_read); what stands in the lent buffer (trail_written,
+-- trail_unwritten). Not here: question files, FileTrailLaws. Assumes nothing.
 use Prim.Native.Nat.{ℕ, ◌+◌, ◌<◌, ◌≤◌}
 use mathlib.Core.Path.{◌≡◌, refl, sym, ap, ◌∙◌}
 use mathlib.Core.List.{List, [], ◌∷◌, ◌++◌}
@@ -207,9 +207,9 @@ module _ (x : Report) (before after : List ℕ) where
       let e : x.trail ≡ [] = (f (λ z. h (ap (λ (a : Answer). a.status) w.answer ∙ z))).trail in
       record { count = w.length ∙ ap length e; buffer = w.buffer ∙ ap (sets before 0) e }
 
-  pub handed-untouched : (n r g a s : ℕ) → Followed x before after n r g a s → ((x.answer.status ≡ 0 → ⊥) → Nothing x) → (r ≡ 0 → ⊥) →
+  pub handed_untouched : (n r g a s : ℕ) → Followed x before after n r g a s → ((x.answer.status ≡ 0 → ⊥) → Nothing x) → (r ≡ 0 → ⊥) →
       Untouched before after n
-  handed-untouched n r g a s w f h =
+  handed_untouched n r g a s w f h =
       let e : x.trail ≡ [] = (f (λ z. h (w.told.status ∙ z))).trail in
       record { count = w.written ∙ ap length e; buffer = w.buffer ∙ ap (sets before 0) e }
 
@@ -221,4 +221,4 @@ trail_unwritten q before after t w h = untouched (in_buffer (length before) (rep
 pub export_unwritten : (q : Question) (before after : List ℕ) (n r g a s : ℕ) →
     Followed (in_buffer (length before) (report_of q)) before after n r g a s → (r ≡ 0 → ⊥) → Untouched before after n
 export_unwritten q before after n r g a s w h =
-    handed-untouched (in_buffer (length before) (report_of q)) before after n r g a s w (refused_report (length before) q) h
+    handed_untouched (in_buffer (length before) (report_of q)) before after n r g a s w (refused_report (length before) q) h

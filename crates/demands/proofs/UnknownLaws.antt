@@ -1,5 +1,5 @@
--- A stranger matches nobody of the token, for allow and for deny. The index: known-false (what a stranger is not), among-groups
--- among-listed, deaf-crowd deaf-confined (in the normal pass, and in that of confinement), stranger-missed. Assumes nothing.
+-- A stranger matches nobody of the token, for allow and for deny. The index: known_false (what a stranger is not), among_groups
+-- among_listed, deaf_crowd deaf_confined (in the normal pass, and in that of confinement), stranger_missed. Assumes nothing.
 use Prim.Native.Nat.{ℕ}
 use mathlib.Core.Path.{◌≡◌, refl}
 use mathlib.Core.List.{List, [], ◌∷◌, map}

@@ -1,7 +1,7 @@
 -- Laws of lists and their entries, for callers: what an accepted list's entries are.
--- In order: the bytes of a list, by its place (acl-of-part); entries one by one (ace-found, entries-stop, entries-more, entries-short); what
--- holds of every entry (All, Sound, entries-sound, Narrow, entries-narrow); a list of plain entries (Plainly, plain-of-scan, Content,
--- judged_of, content-of, OneMore, plain_more, plain-cons), all of which are read (plain-reads-all). The tests one by one are in AclSteps.
+-- In order: the bytes of a list, by its place (acl_of_part); entries one by one (ace_found, entries_stop, entries_more, entries_short); what
+-- holds of every entry (All, Sound, entries_sound, Narrow, entries_narrow); a list of plain entries (Plainly, plain_of_scan, Content,
+-- judged_of, content_of_lem, OneMore, plain_more, plain_cons), all of which are read (plain_reads_all). The tests one by one are in AclSteps.
 -- Assumes nothing.
 use Prim.Native.Nat.{ℕ, zero, suc, ◌+◌, ◌-◌, ◌^◌, ◌<◌, ◌≤◌}
 use mathlib.Core.Path.{◌≡◌, refl, sym, ap, ◌∙◌}
@@ -15,7 +15,7 @@ use borrow.Author.Tests.{eq-eqb, ne_eqb, eqb-true, eqb-false}
 use Rattle.base.specs.Bytes.{byte_at, u16_at, part}
 use Rattle.base.proofs.BoolLaws.{true_false}
 use Rattle.base.proofs.BytesLaws.{length_part, bytes_part, byte_lt}
-use Rattle.base.proofs.WordsLaws.{u32-at-lt}
+use Rattle.base.proofs.WordsLaws.{u32_at_lt}
 use Rattle.sids.specs.Sid.{sid_end, is_sid}
 use Rattle.conditions.specs.Scanning.{is_broken, is_foreign}
 use Rattle.conditions.specs.Condition.{shape}
@@ -27,9 +27,9 @@ use Rattle.conditions.specs.declared.scan.Scan.{Scan}
 use Rattle.conditions.specs.declared.scan.Scan.TheVariants.{Broken, Foreign, Plain}
 use Rattle.base.proofs.PartLaws.{byte_of_part, u16_of_part}
 use Rattle.sids.proofs.SidLaws.{sid_of_part}
-use Rattle.lists.proofs.AclSteps.{revised, AclAt, acl_at, acl-end-whole}
-use Rattle.lists.proofs.EntrySteps.{content-plain, content-foreign, content_condition, entry-end-sid, ace-at-none, ace-at-foreign}
-use Rattle.lists.proofs.EntrySteps.{ace-at-some}
+use Rattle.lists.proofs.AclSteps.{revised, AclAt, acl_at, acl_end_whole}
+use Rattle.lists.proofs.EntrySteps.{content_plain, content_foreign, content_condition, entry_end_sid, ace_at_none, ace_at_foreign}
+use Rattle.lists.proofs.EntrySteps.{ace_at_some}
 
 -- ---- the bytes of a list, by its place
 
@@ -40,7 +40,7 @@ acl_of_part s at e q h =
     let z : byte_at (part s at e) 0 ≡ byte_at s at = byte_of_part s at e 0 (omega arith) ∙ ap (byte_at s) (omega arith) in
     let u : u16_at (part s at e) 2 ≡ u16_at s (at + 2) = u16_of_part s at e 2 (omega arith) (omega arith) in
     let w : acl_end (part s at e) 0 ≡ 0 + u16_at (part s at e) 2 =
-    acl-end-whole (part s at e) 0 (ap revised z ∙ a.known) (omega arith) (omega arith) in
+    acl_end_whole (part s at e) 0 (ap revised z ∙ a.known) (omega arith) (omega arith) in
     omega arith
 
 -- ---- entries, one by one
@@ -51,18 +51,18 @@ ace_found l at h = go (named (byte_at l at)) refl (eqb (entry_end true l at) 0) 
   where
     go : (t : Bool) → named (byte_at l at) ≡ t → (u : Bool) → eqb (entry_end true l at) 0 ≡ u →
         (named (byte_at l at) ≡ true) × (entry_end true l at ≡ 0 → ⊥)
-    go false e u f = absurd (h (ap (λ (x : Ace). x.next) (ace-at-foreign l at e)))
-    go true e true f = absurd (h (ap (λ (x : Ace). x.next) (ace-at-none l at (eqb-true _ _ f))))
+    go false e u f = absurd (h (ap (λ (x : Ace). x.next) (ace_at_foreign l at e)))
+    go true e true f = absurd (h (ap (λ (x : Ace). x.next) (ace_at_none l at (eqb-true _ _ f))))
     go true e false f = (e, eqb-false _ _ f)
 
 module _ (l : List ℕ) (n at : ℕ) where
-  pub entries-stop : (ace_at l at).next ≡ 0 → entries_at l (suc n) at ≡ []
+  pub entries_stop : (ace_at l at).next ≡ 0 → entries_at l (suc n) at ≡ []
   unfolding entries_at
-  entries-stop h = rw (eq-eqb (ace_at l at).next 0 h)
+  entries_stop h = rw (eq-eqb (ace_at l at).next 0 h)
 
-  pub entries-more : ((ace_at l at).next ≡ 0 → ⊥) → entries_at l (suc n) at ≡ entry_of l (ace_at l at) ∷ entries_at l n (ace_at l at).next
+  pub entries_more : ((ace_at l at).next ≡ 0 → ⊥) → entries_at l (suc n) at ≡ entry_of l (ace_at l at) ∷ entries_at l n (ace_at l at).next
   unfolding entries_at
-  entries-more h = rw (ne_eqb (ace_at l at).next 0 h)
+  entries_more h = rw (ne_eqb (ace_at l at).next 0 h)
 
 -- no more of them are read than are counted
 pub entries_short : (l : List ℕ) → length (entries_of l) ≤ u16_at l 4
@@ -110,8 +110,8 @@ each P l f (suc n) at = go (eqb (ace_at l at).next 0) refl (each P l f n (ace_at
 pub entry_sound : (l : List ℕ) (at : ℕ) → ((ace_at l at).next ≡ 0 → ⊥) → Sound (entry_of l (ace_at l at))
 entry_sound l at h =
     let a = ace_found l at h in
-    rw (ace-at-some l at a.0 a.1)
-    (record { kind = a.0; sid = sid_of_part l (at + 8) (sid_end l (at + 8)) refl (entry-end-sid l at a.0 a.1) })
+    rw (ace_at_some l at a.0 a.1)
+    (record { kind = a.0; sid = sid_of_part l (at + 8) (sid_end l (at + 8)) refl (entry_end_sid l at a.0 a.1) })
 
 pub entries_sound : (l : List ℕ) → All Sound (entries_of l)
 unfolding entries_of
@@ -120,8 +120,8 @@ entries_sound l = each Sound l (entry_sound l) (u16_at l 4) 8
 pub entry_narrow : (l : List ℕ) → T (are_bytes l) → (at : ℕ) → ((ace_at l at).next ≡ 0 → ⊥) → Narrow (entry_of l (ace_at l at))
 entry_narrow l b at h =
     let a = ace_found l at h in
-    rw (ace-at-some l at a.0 a.1)
-    (record { flags = byte_lt l (at + 1) b; mask = u32-at-lt l (at + 4) b; sid = bytes_part l (at + 8) (sid_end l (at + 8)) b })
+    rw (ace_at_some l at a.0 a.1)
+    (record { flags = byte_lt l (at + 1) b; mask = u32_at_lt l (at + 4) b; sid = bytes_part l (at + 8) (sid_end l (at + 8)) b })
 
 pub entries_narrow : (l : List ℕ) → T (are_bytes l) → All Narrow (entries_of l)
 unfolding entries_of
@@ -159,7 +159,7 @@ judged_of l a = cond (callback a.kind) (shape (condition_of l a)) Plain
 pub content_of_lem : (l : List ℕ) (at : ℕ) → ((ace_at l at).next ≡ 0 → ⊥) → Content l at ≡ judged_of l (ace_at l at)
 content_of_lem l at h =
     let f = ace_found l at h in
-    rw (ace-at-some l at f.0 f.1) (go (callback (byte_at l at)) refl f.0)
+    rw (ace_at_some l at f.0 f.1) (go (callback (byte_at l at)) refl f.0)
   where
     e : ℕ
     e = entry_end true l at
@@ -168,7 +168,7 @@ content_of_lem l at h =
         content_of true l at e
         ≡ cond (callback (byte_at l at)) (shape (cond (callback (byte_at l at)) (part l (sid_end l (at + 8)) e) [])) Plain
     go true c n = content_condition l at e n c ∙ rw c refl
-    go false c n = content-plain true l at e n c ∙ rw c refl
+    go false c n = content_plain true l at e n c ∙ rw c refl
 
 -- the first of them is read, what it holds is plain, and the others follow it
 pub record OneMore (l : List ℕ) (n at : ℕ) : Type 0 where
@@ -191,9 +191,9 @@ plain_more l n at p =
 
     more : (eqb e 0 ≡ false) → content_of true l at e ≡ Plain → Plainly l n e → (t : Bool) → named (byte_at l at) ≡ t → OneMore l n at
     more q c r true m =
-        let i : (ace_at l at).next ≡ e = ap (λ (x : Ace). x.next) (ace-at-some l at m (eqb-false _ _ q)) in
+        let i : (ace_at l at).next ≡ e = ap (λ (x : Ace). x.next) (ace_at_some l at m (eqb-false _ _ q)) in
         record { some = λ z. eqb-false _ _ q (sym i ∙ z); content = ap (content_of true l at) i ∙ c; rest = rw i r }
-    more q c r false m = let f = content-foreign true l at e m in let z : ◌≡◌ {A = ℕ} 0 1 = cc in absurd (omega arith)
+    more q c r false m = let f = content_foreign true l at e m in let z : ◌≡◌ {A = ℕ} 0 1 = cc in absurd (omega arith)
 
     go : (u : Bool) → eqb e 0 ≡ u → (b : Bool) → is_broken (content_of true l at e) ≡ b → (f : Bool) → is_foreign (content_of true l at e) ≡ f →
         cond u false (cond b false (shaped true l n e)) ≡ true → cond f true (foreign true l n e) ≡ false → OneMore l n at
@@ -208,7 +208,7 @@ pub plain_cons : (l : List ℕ) (n at : ℕ) → OneMore l n at → Plainly l (s
 unfolding shaped foreign
 plain_cons l n at o =
     let f = ace_found l at o.some in
-    let i : (ace_at l at).next ≡ entry_end true l at = ap (λ (x : Ace). x.next) (ace-at-some l at f.0 f.1) in
+    let i : (ace_at l at).next ≡ entry_end true l at = ap (λ (x : Ace). x.next) (ace_at_some l at f.0 f.1) in
     let c : content_of true l at (entry_end true l at) ≡ Plain = ap (content_of true l at) (sym i) ∙ o.content in
     let q : Plainly l n (entry_end true l at) = rw (sym i) o.rest in
     record {

@@ -1,6 +1,6 @@
 -- Where a list and an entry's heading end, by each test in its order. For `acl_end` and `head_end`.
--- In order: where an ACL ends (acl-end-..) and what stands where one does (AclAt, acl-at, acl-end-bounds); the same of an entry's heading
--- (head-end-.., HeadAt, head_at, head-end-bounds).
+-- In order: where an ACL ends (acl-end-..) and what stands where one does (AclAt, acl_at, acl_end_bounds); the same of an entry's heading
+-- (head-end-.., HeadAt, head_at, head_end_bounds).
 -- Not here: entries, EntrySteps; what an accepted list is, AclLaws. Assumes nothing.
 use Prim.Native.Nat.{ℕ, ◌+◌, ◌%◌, ◌<◌, ◌≤◌}
 use mathlib.Core.Path.{◌≡◌, refl}
@@ -20,28 +20,28 @@ abbrev pub revised : ℕ → Bool
 revised b = eqb b 2 || eqb b 4
 
 module _ (s : List ℕ) (at : ℕ) where
-  pub acl-end-short : length s < at + 8 → acl_end s at ≡ 0
+  pub acl_end_short : length s < at + 8 → acl_end s at ≡ 0
   unfolding acl_end
-  acl-end-short h = rw (lt-ltb (length s) (at + 8) h)
+  acl_end_short h = rw (lt-ltb (length s) (at + 8) h)
 
-  pub acl-end-other : at + 8 ≤ length s → revised (byte_at s at) ≡ false → acl_end s at ≡ 0
+  pub acl_end_other : at + 8 ≤ length s → revised (byte_at s at) ≡ false → acl_end s at ≡ 0
   unfolding acl_end
-  acl-end-other f h = rw (le-ltb (length s) (at + 8) f, h)
+  acl_end_other f h = rw (le-ltb (length s) (at + 8) f, h)
 
-  pub acl-end-small : at + 8 ≤ length s → revised (byte_at s at) ≡ true → u16_at s (at + 2) < 8 → acl_end s at ≡ 0
+  pub acl_end_small : at + 8 ≤ length s → revised (byte_at s at) ≡ true → u16_at s (at + 2) < 8 → acl_end s at ≡ 0
   unfolding acl_end
-  acl-end-small f r h = rw (le-ltb (length s) (at + 8) f, r, lt-ltb (u16_at s (at + 2)) 8 h)
+  acl_end_small f r h = rw (le-ltb (length s) (at + 8) f, r, lt-ltb (u16_at s (at + 2)) 8 h)
 
-  pub acl-end-cut : at + 8 ≤ length s → revised (byte_at s at) ≡ true → 8 ≤ u16_at s (at + 2) → length s < at + u16_at s (at + 2) →
+  pub acl_end_cut : at + 8 ≤ length s → revised (byte_at s at) ≡ true → 8 ≤ u16_at s (at + 2) → length s < at + u16_at s (at + 2) →
       acl_end s at ≡ 0
   unfolding acl_end
-  acl-end-cut f r m h =
+  acl_end_cut f r m h =
       rw (le-ltb (length s) (at + 8) f, r, le-ltb (u16_at s (at + 2)) 8 m, lt-ltb (length s) (at + u16_at s (at + 2)) h)
 
-  pub acl-end-whole : revised (byte_at s at) ≡ true → 8 ≤ u16_at s (at + 2) → at + u16_at s (at + 2) ≤ length s →
+  pub acl_end_whole : revised (byte_at s at) ≡ true → 8 ≤ u16_at s (at + 2) → at + u16_at s (at + 2) ≤ length s →
       acl_end s at ≡ at + u16_at s (at + 2)
   unfolding acl_end
-  acl-end-whole r m h =
+  acl_end_whole r m h =
       rw (le-ltb (length s) (at + 8) (omega arith), r, le-ltb (u16_at s (at + 2)) 8 m, le-ltb (length s) (at + u16_at s (at + 2)) h)
 
 -- what stands where an ACL does
@@ -61,14 +61,14 @@ acl_at s at h =
   where
     go : (t : Bool) → ltb (length s) (at + 8) ≡ t → (u : Bool) → revised (byte_at s at) ≡ u →
         (v : Bool) → ltb (u16_at s (at + 2)) 8 ≡ v → (w : Bool) → ltb (length s) (at + u16_at s (at + 2)) ≡ w → AclAt s at
-    go true e u f v g w i = absurd (h (acl-end-short s at (ltb-true _ _ e)))
-    go false e false f v g w i = absurd (h (acl-end-other s at (ltb-false _ _ e) f))
-    go false e true f true g w i = absurd (h (acl-end-small s at (ltb-false _ _ e) f (ltb-true _ _ g)))
-    go false e true f false g true i = absurd (h (acl-end-cut s at (ltb-false _ _ e) f (ltb-false _ _ g) (ltb-true _ _ i)))
+    go true e u f v g w i = absurd (h (acl_end_short s at (ltb-true _ _ e)))
+    go false e false f v g w i = absurd (h (acl_end_other s at (ltb-false _ _ e) f))
+    go false e true f true g w i = absurd (h (acl_end_small s at (ltb-false _ _ e) f (ltb-true _ _ g)))
+    go false e true f false g true i = absurd (h (acl_end_cut s at (ltb-false _ _ e) f (ltb-false _ _ g) (ltb-true _ _ i)))
     go false e true f false g false i =
         let m : 8 ≤ u16_at s (at + 2) = ltb-false _ _ g in
         let k : at + u16_at s (at + 2) ≤ length s = ltb-false _ _ i in
-        record { known = f; small = m; whole = k; ends = acl-end-whole s at f m k }
+        record { known = f; small = m; whole = k; ends = acl_end_whole s at f m k }
 
 pub acl_end_bounds : (s : List ℕ) (at : ℕ) → (acl_end s at ≡ 0 → ⊥) → (at + 8 ≤ acl_end s at) × (acl_end s at ≤ length s)
 acl_end_bounds s at h = let a : AclAt s at = acl_at s at h in (omega arith, omega arith)
@@ -76,22 +76,22 @@ acl_end_bounds s at h = let a : AclAt s at = acl_at s at h in (omega arith, omeg
 -- ---- an entry's heading
 
 module _ (l : List ℕ) (at : ℕ) where
-  pub head-end-short : length l < at + 4 → head_end l at ≡ 0
+  pub head_end_short : length l < at + 4 → head_end l at ≡ 0
   unfolding head_end
-  head-end-short h = rw (lt-ltb (length l) (at + 4) h)
+  head_end_short h = rw (lt-ltb (length l) (at + 4) h)
 
-  pub head-end-odd : at + 4 ≤ length l → (u16_at l (at + 2) % 4 ≡ 0 → ⊥) → head_end l at ≡ 0
+  pub head_end_odd : at + 4 ≤ length l → (u16_at l (at + 2) % 4 ≡ 0 → ⊥) → head_end l at ≡ 0
   unfolding head_end
-  head-end-odd f h = rw (le-ltb (length l) (at + 4) f, ne_eqb (u16_at l (at + 2) % 4) 0 h)
+  head_end_odd f h = rw (le-ltb (length l) (at + 4) f, ne_eqb (u16_at l (at + 2) % 4) 0 h)
 
-  pub head-end-small : at + 4 ≤ length l → u16_at l (at + 2) % 4 ≡ 0 → u16_at l (at + 2) < 4 → head_end l at ≡ 0
+  pub head_end_small : at + 4 ≤ length l → u16_at l (at + 2) % 4 ≡ 0 → u16_at l (at + 2) < 4 → head_end l at ≡ 0
   unfolding head_end
-  head-end-small f d h = rw (le-ltb (length l) (at + 4) f, eq-eqb (u16_at l (at + 2) % 4) 0 d, lt-ltb (u16_at l (at + 2)) 4 h)
+  head_end_small f d h = rw (le-ltb (length l) (at + 4) f, eq-eqb (u16_at l (at + 2) % 4) 0 d, lt-ltb (u16_at l (at + 2)) 4 h)
 
-  pub head-end-cut : at + 4 ≤ length l → u16_at l (at + 2) % 4 ≡ 0 → 4 ≤ u16_at l (at + 2) → length l < at + u16_at l (at + 2) →
+  pub head_end_cut : at + 4 ≤ length l → u16_at l (at + 2) % 4 ≡ 0 → 4 ≤ u16_at l (at + 2) → length l < at + u16_at l (at + 2) →
       head_end l at ≡ 0
   unfolding head_end
-  head-end-cut f d m h =
+  head_end_cut f d m h =
       rw (
         le-ltb (length l) (at + 4) f,
         eq-eqb (u16_at l (at + 2) % 4) 0 d,
@@ -99,10 +99,10 @@ module _ (l : List ℕ) (at : ℕ) where
         lt-ltb (length l) (at + u16_at l (at + 2)) h,
       )
 
-  pub head-end-whole : u16_at l (at + 2) % 4 ≡ 0 → 4 ≤ u16_at l (at + 2) → at + u16_at l (at + 2) ≤ length l →
+  pub head_end_whole : u16_at l (at + 2) % 4 ≡ 0 → 4 ≤ u16_at l (at + 2) → at + u16_at l (at + 2) ≤ length l →
       head_end l at ≡ at + u16_at l (at + 2)
   unfolding head_end
-  head-end-whole d m h =
+  head_end_whole d m h =
       rw (
         le-ltb (length l) (at + 4) (omega arith),
         eq-eqb (u16_at l (at + 2) % 4) 0 d,
@@ -127,16 +127,16 @@ head_at l at h =
   where
     go : (t : Bool) → ltb (length l) (at + 4) ≡ t → (u : Bool) → eqb (u16_at l (at + 2) % 4) 0 ≡ u →
         (v : Bool) → ltb (u16_at l (at + 2)) 4 ≡ v → (w : Bool) → ltb (length l) (at + u16_at l (at + 2)) ≡ w → HeadAt l at
-    go true e u f v g w i = absurd (h (head-end-short l at (ltb-true _ _ e)))
-    go false e false f v g w i = absurd (h (head-end-odd l at (ltb-false _ _ e) (eqb-false _ _ f)))
-    go false e true f true g w i = absurd (h (head-end-small l at (ltb-false _ _ e) (eqb-true _ _ f) (ltb-true _ _ g)))
+    go true e u f v g w i = absurd (h (head_end_short l at (ltb-true _ _ e)))
+    go false e false f v g w i = absurd (h (head_end_odd l at (ltb-false _ _ e) (eqb-false _ _ f)))
+    go false e true f true g w i = absurd (h (head_end_small l at (ltb-false _ _ e) (eqb-true _ _ f) (ltb-true _ _ g)))
     go false e true f false g true i =
-        absurd (h (head-end-cut l at (ltb-false _ _ e) (eqb-true _ _ f) (ltb-false _ _ g) (ltb-true _ _ i)))
+        absurd (h (head_end_cut l at (ltb-false _ _ e) (eqb-true _ _ f) (ltb-false _ _ g) (ltb-true _ _ i)))
     go false e true f false g false i =
         let d : u16_at l (at + 2) % 4 ≡ 0 = eqb-true _ _ f in
         let m : 4 ≤ u16_at l (at + 2) = ltb-false _ _ g in
         let k : at + u16_at l (at + 2) ≤ length l = ltb-false _ _ i in
-        record { four = d; small = m; whole = k; ends = head-end-whole l at d m k }
+        record { four = d; small = m; whole = k; ends = head_end_whole l at d m k }
 
 pub head_end_bounds : (l : List ℕ) (at : ℕ) → (head_end l at ≡ 0 → ⊥) → (at + 4 ≤ head_end l at) × (head_end l at ≤ length l)
 head_end_bounds l at h = let a : HeadAt l at = head_at l at h in (omega arith, omega arith)

@@ -1,7 +1,7 @@
 -- Laws of a whole descriptor, for callers: what its parts are.
--- In order: every part lies inside (parts-bounds); what an accepted descriptor is (Accepted, whole-heading, whole-accepted, whole_is) and
--- its parts (whole-owner, whole-group, whole-dacl, whole-sacl, whole-null); that a refused read hands out nothing (refused-is, refused-nothing,
--- null-dacl).
+-- In order: every part lies inside (parts_bounds); what an accepted descriptor is (Accepted, whole_heading, whole_accepted, whole_is) and
+-- its parts (whole_owner, whole_group, whole_dacl, whole_sacl, whole_null); that a refused read hands out nothing (refused_is, refused_nothing,
+-- null_dacl_lem).
 -- Not here: what an offset names, PieceLaws; the tests one by one, DescriptorSteps. Assumes nothing.
 use Prim.Native.Nat.{ℕ}
 use mathlib.Core.Path.{◌≡◌, refl, sym, ap, ◌∙◌}
@@ -24,7 +24,7 @@ use Rattle.lists.specs.declared.descriptor.Piece.{Piece}
 use Rattle.lists.specs.declared.descriptor.Verdict.TheVariants.{Whole, Misshapen, Ownerless, ForeignEntry}
 use Rattle.lists.specs.declared.descriptor.Parts.{Parts}
 use Rattle.sids.proofs.SidLaws.{sid_of_part}
-use Rattle.lists.proofs.DescriptorSteps.{judged-whole, parts_refused, parts_judged, refused_inside, judged_inside}
+use Rattle.lists.proofs.DescriptorSteps.{judged_whole, parts_refused, parts_judged, refused_inside, judged_inside}
 use Rattle.lists.proofs.PieceLaws.{SidPiece, sid_piece_cases, sid_piece_within, acl_piece_within}
 use Rattle.lists.proofs.PieceLaws.{Listed, piece_listed, absent_nothing}
 use Rattle.lists.proofs.PieceLaws.SidPiece.{misshapen, nothing, stands}
@@ -78,8 +78,8 @@ judged_accepted o g s a h = go (bad o) refl (bad g) refl (bad s) refl (bad a) re
         record { owner = e1; group = e2; sacl = e3; dacl = e4; owned = e5; plain = e6 }
 
 module _ (d : List ℕ) (whole : (parts_of d).verdict ≡ Whole) where
-  pub whole-heading : heading d ≡ true
-  whole-heading = go (heading d) refl
+  pub whole_heading : heading d ≡ true
+  whole_heading = go (heading d) refl
     where
       go : (t : Bool) → heading d ≡ t → heading d ≡ true
       go true e = e
@@ -88,16 +88,16 @@ module _ (d : List ℕ) (whole : (parts_of d).verdict ≡ Whole) where
           let z : ◌≡◌ {A = ℕ} 0 1 = cc in
           absurd (omega arith)
 
-  pub whole-accepted : Accepted (owner_piece d) (group_piece d) (sacl_piece d) (dacl_piece d)
-  whole-accepted =
+  pub whole_accepted : Accepted (owner_piece d) (group_piece d) (sacl_piece d) (dacl_piece d)
+  whole_accepted =
       judged_accepted (owner_piece d) (group_piece d) (sacl_piece d) (dacl_piece d)
-      (sym (ap (λ (p : Parts). p.verdict) (parts_judged d whole-heading)) ∙ whole)
+      (sym (ap (λ (p : Parts). p.verdict) (parts_judged d whole_heading)) ∙ whole)
 
   pub whole_is : parts_of d ≡ whole_parts (owner_piece d) (group_piece d) (sacl_piece d) (dacl_piece d)
   whole_is =
-      let a = whole-accepted in
-      parts_judged d whole-heading
-      ∙ judged-whole (owner_piece d) (group_piece d) (sacl_piece d) (dacl_piece d)
+      let a = whole_accepted in
+      parts_judged d whole_heading
+      ∙ judged_whole (owner_piece d) (group_piece d) (sacl_piece d) (dacl_piece d)
       a.owner a.group a.sacl a.dacl a.owned a.plain
 
   -- the bytes of a part, by its piece
@@ -106,22 +106,22 @@ module _ (d : List ℕ) (whole : (parts_of d).verdict ≡ Whole) where
   part_is x p e = ap (λ (q : Extent). part d q.from q.to) (ap x whole_is ∙ e)
 
   -- "points at a whole SID"
-  pub whole-owner : is_sid (owner_of d) ≡ true
-  whole-owner = ap is_sid (part_is (λ p. p.owner) (owner_piece d) refl) ∙ go (sid_piece_cases d (u32_at d 4))
+  pub whole_owner : is_sid (owner_of d) ≡ true
+  whole_owner = ap is_sid (part_is (λ p. p.owner) (owner_piece d) refl) ∙ go (sid_piece_cases d (u32_at d 4))
     where
       a : Accepted (owner_piece d) (group_piece d) (sacl_piece d) (dacl_piece d)
-      a = whole-accepted
+      a = whole_accepted
 
       go : SidPiece d (u32_at d 4) → is_sid (part d (start_of (owner_piece d)) (end_of (owner_piece d))) ≡ true
       go (misshapen e) = let q = sym (ap bad e) ∙ a.owner in let z : ◌≡◌ {A = ℕ} 0 1 = cc in absurd (omega arith)
       go (nothing n e) = let q = sym (ap absent e) ∙ a.owned in let z : ◌≡◌ {A = ℕ} 0 1 = cc in absurd (omega arith)
       go (stands l h e) = rw e (sid_of_part d (u32_at d 4) (sid_end d (u32_at d 4)) refl h)
 
-  pub whole-group : (group_of d ≡ []) ⊎ (is_sid (group_of d) ≡ true)
-  whole-group = rw (part_is (λ p. p.group) (group_piece d) refl) (go (sid_piece_cases d (u32_at d 8)))
+  pub whole_group : (group_of d ≡ []) ⊎ (is_sid (group_of d) ≡ true)
+  whole_group = rw (part_is (λ p. p.group) (group_piece d) refl) (go (sid_piece_cases d (u32_at d 8)))
     where
       a : Accepted (owner_piece d) (group_piece d) (sacl_piece d) (dacl_piece d)
-      a = whole-accepted
+      a = whole_accepted
 
       go : SidPiece d (u32_at d 8) →
           (part d (start_of (group_piece d)) (end_of (group_piece d)) ≡ []) ⊎
@@ -131,19 +131,19 @@ module _ (d : List ℕ) (whole : (parts_of d).verdict ≡ Whole) where
       go (stands l h e) = inr (rw e (sid_of_part d (u32_at d 8) (sid_end d (u32_at d 8)) refl h))
 
   -- not null: a whole list, of plain entries only
-  pub whole-dacl : (parts_of d).null ≡ false → (scan_of true (dacl_of d) ≡ Plain) × (acl_end (dacl_of d) 0 ≡ length (dacl_of d))
-  whole-dacl h =
-      let a = whole-accepted in
+  pub whole_dacl : (parts_of d).null ≡ false → (scan_of true (dacl_of d) ≡ Plain) × (acl_end (dacl_of d) 0 ≡ length (dacl_of d))
+  whole_dacl h =
+      let a = whole_accepted in
       let n = sym (ap (λ (p : Parts). p.null) whole_is) ∙ h in
       let l = piece_listed true d (has (u16_at d 2) 0x0004) (u32_at d 16) (dacl_piece d) refl a.dacl n in
       rw (part_is (λ p. p.dacl) (dacl_piece d) refl) (l.told ∙ ap (scanned true) a.plain, l.ends)
 
   -- the SACL, where it is there, is a whole list of well shaped headings and sizes
-  pub whole-sacl : (sacl_of d ≡ []) ⊎ Listed false (sacl_of d) (alien (sacl_piece d))
-  whole-sacl = rw (part_is (λ p. p.sacl) (sacl_piece d) refl) (go (absent (sacl_piece d)) refl)
+  pub whole_sacl : (sacl_of d ≡ []) ⊎ Listed false (sacl_of d) (alien (sacl_piece d))
+  whole_sacl = rw (part_is (λ p. p.sacl) (sacl_piece d) refl) (go (absent (sacl_piece d)) refl)
     where
       a : Accepted (owner_piece d) (group_piece d) (sacl_piece d) (dacl_piece d)
-      a = whole-accepted
+      a = whole_accepted
 
       go : (t : Bool) → absent (sacl_piece d) ≡ t →
           (part d (start_of (sacl_piece d)) (end_of (sacl_piece d)) ≡ []) ⊎
@@ -152,8 +152,8 @@ module _ (d : List ℕ) (whole : (parts_of d).verdict ≡ Whole) where
       go false e = inr (piece_listed false d (has (u16_at d 2) 0x0010) (u32_at d 12) (sacl_piece d) refl a.sacl e)
 
   -- null by the clear bit alone
-  pub whole-null : (parts_of d).null ≡ true → dacl_of d ≡ []
-  whole-null h =
+  pub whole_null : (parts_of d).null ≡ true → dacl_of d ≡ []
+  whole_null h =
       let n = sym (ap (λ (p : Parts). p.null) whole_is) ∙ h in
       part_is (λ p. p.dacl) (dacl_piece d) refl ∙ absent_nothing d (dacl_piece d) n
 
@@ -191,20 +191,20 @@ parts_either d =
     go true false false false false false false = inl refl
 
 module _ (d : List ℕ) (refused : (parts_of d).verdict ≡ Whole → ⊥) where
-  pub refused-is : parts_of d ≡ refused_parts (parts_of d).verdict
-  refused-is = ⊎_elim (λ w. absurd (refused w)) (λ e. e) (parts_either d)
+  pub refused_is : parts_of d ≡ refused_parts (parts_of d).verdict
+  refused_is = ⊎_elim (λ w. absurd (refused w)) (λ e. e) (parts_either d)
 
   pub refused_nothing : (owner_of d ≡ []) × ((group_of d ≡ []) × ((sacl_of d ≡ []) × (dacl_of d ≡ [])))
   refused_nothing =
       let of : (x : Parts → Extent) → x (refused_parts (parts_of d).verdict) ≡ record { from = 0; to = 0 } →
       part d (x (parts_of d)).from (x (parts_of d)).to ≡ [] =
-      λ x e. ap (λ (q : Extent). part d q.from q.to) (ap x refused-is ∙ e) ∙ part_empty d 0 in
+      λ x e. ap (λ (q : Extent). part d q.from q.to) (ap x refused_is ∙ e) ∙ part_empty d 0 in
       (of (λ p. p.owner) refl, (of (λ p. p.group) refl, (of (λ p. p.sacl) refl, of (λ p. p.dacl) refl)))
 
 -- a null DACL has no bytes, whatever else was read
 pub null_dacl_lem : (d : List ℕ) → (parts_of d).null ≡ true → dacl_of d ≡ []
 null_dacl_lem d h =
     ⊎_elim
-    (λ w. whole-null d w h)
+    (λ w. whole_null d w h)
     (λ e. ap (λ (p : Parts). part d p.dacl.from p.dacl.to) e ∙ part_empty d 0)
     (parts_either d)

@@ -26,92 +26,92 @@ use Rattle.lists.specs.declared.descriptor.Parts.{Parts}
 -- ---- the heading
 
 module _ (d : List ℕ) where
-  pub heading-short : length d < 20 → heading d ≡ false
+  pub heading_short : length d < 20 → heading d ≡ false
   unfolding heading
-  heading-short h = rw (lt-ltb (length d) 20 h)
+  heading_short h = rw (lt-ltb (length d) 20 h)
 
-  pub heading-long : 20 ≤ length d → 65535 < length d → heading d ≡ false
+  pub heading_long : 20 ≤ length d → 65535 < length d → heading d ≡ false
   unfolding heading
-  heading-long l h = rw (le-ltb (length d) 20 l, lt-ltb 65535 (length d) h)
+  heading_long l h = rw (le-ltb (length d) 20 l, lt-ltb 65535 (length d) h)
 
-  pub heading-other : 20 ≤ length d → length d ≤ 65535 → (byte_at d 0 ≡ 1 → ⊥) → heading d ≡ false
+  pub heading_other : 20 ≤ length d → length d ≤ 65535 → (byte_at d 0 ≡ 1 → ⊥) → heading d ≡ false
   unfolding heading
-  heading-other l m h = rw (le-ltb (length d) 20 l, le-ltb 65535 (length d) m, ne_eqb (byte_at d 0) 1 h)
+  heading_other l m h = rw (le-ltb (length d) 20 l, le-ltb 65535 (length d) m, ne_eqb (byte_at d 0) 1 h)
 
-  pub heading-some : 20 ≤ length d → length d ≤ 65535 → byte_at d 0 ≡ 1 → heading d ≡ has (u16_at d 2) 0x8000
+  pub heading_some : 20 ≤ length d → length d ≤ 65535 → byte_at d 0 ≡ 1 → heading d ≡ has (u16_at d 2) 0x8000
   unfolding heading
-  heading-some l m h = rw (le-ltb (length d) 20 l, le-ltb 65535 (length d) m, eq-eqb (byte_at d 0) 1 h)
+  heading_some l m h = rw (le-ltb (length d) 20 l, le-ltb 65535 (length d) m, eq-eqb (byte_at d 0) 1 h)
 
 -- ---- an identity that an offset names
 
 module _ (d : List ℕ) (off : ℕ) where
-  pub sid-piece-absent : off ≡ 0 → sid_piece d off ≡ Absent
+  pub sid_piece_absent : off ≡ 0 → sid_piece d off ≡ Absent
   unfolding sid_piece
-  sid-piece-absent h = rw (eq-eqb off 0 h)
+  sid_piece_absent h = rw (eq-eqb off 0 h)
 
-  pub sid-piece-low : (off ≡ 0 → ⊥) → off < 20 → sid_piece d off ≡ Bad
+  pub sid_piece_low : (off ≡ 0 → ⊥) → off < 20 → sid_piece d off ≡ Bad
   unfolding sid_piece
-  sid-piece-low n h = rw (ne_eqb off 0 n, lt-ltb off 20 h)
+  sid_piece_low n h = rw (ne_eqb off 0 n, lt-ltb off 20 h)
 
-  pub sid-piece-bad : 20 ≤ off → sid_end d off ≡ 0 → sid_piece d off ≡ Bad
+  pub sid_piece_bad : 20 ≤ off → sid_end d off ≡ 0 → sid_piece d off ≡ Bad
   unfolding sid_piece
-  sid-piece-bad n h = rw (ne_eqb off 0 (λ q. omega arith), le-ltb off 20 n, eq-eqb (sid_end d off) 0 h)
+  sid_piece_bad n h = rw (ne_eqb off 0 (λ q. omega arith), le-ltb off 20 n, eq-eqb (sid_end d off) 0 h)
 
-  pub sid-piece-at : 20 ≤ off → (sid_end d off ≡ 0 → ⊥) → sid_piece d off ≡ At off (sid_end d off)
+  pub sid_piece_at : 20 ≤ off → (sid_end d off ≡ 0 → ⊥) → sid_piece d off ≡ At off (sid_end d off)
   unfolding sid_piece
-  sid-piece-at n h = rw (ne_eqb off 0 (λ q. omega arith), le-ltb off 20 n, ne_eqb (sid_end d off) 0 h)
+  sid_piece_at n h = rw (ne_eqb off 0 (λ q. omega arith), le-ltb off 20 n, ne_eqb (sid_end d off) 0 h)
 
 -- ---- a list that an offset names
 
 module _ (deep : Bool) (d : List ℕ) (off : ℕ) where
-  pub acl-piece-absent : acl_piece deep d false off ≡ Absent
+  pub acl_piece_absent : acl_piece deep d false off ≡ Absent
   unfolding acl_piece
-  acl-piece-absent = refl
+  acl_piece_absent = refl
 
-  pub acl-piece-low : off < 20 → acl_piece deep d true off ≡ Bad
+  pub acl_piece_low : off < 20 → acl_piece deep d true off ≡ Bad
   unfolding acl_piece
-  acl-piece-low h = rw (lt-ltb off 20 h)
+  acl_piece_low h = rw (lt-ltb off 20 h)
 
-  pub acl-piece-bad : 20 ≤ off → acl_end d off ≡ 0 → acl_piece deep d true off ≡ Bad
+  pub acl_piece_bad : 20 ≤ off → acl_end d off ≡ 0 → acl_piece deep d true off ≡ Bad
   unfolding acl_piece
-  acl-piece-bad n h = rw (le-ltb off 20 n, eq-eqb (acl_end d off) 0 h)
+  acl_piece_bad n h = rw (le-ltb off 20 n, eq-eqb (acl_end d off) 0 h)
 
-  pub acl-piece-of : 20 ≤ off → (acl_end d off ≡ 0 → ⊥) →
+  pub acl_piece_of : 20 ≤ off → (acl_end d off ≡ 0 → ⊥) →
       acl_piece deep d true off ≡ piece_of off (acl_end d off) (scan_of deep (part d off (acl_end d off)))
   unfolding acl_piece
-  acl-piece-of n h = rw (le-ltb off 20 n, ne_eqb (acl_end d off) 0 h)
+  acl_piece_of n h = rw (le-ltb off 20 n, ne_eqb (acl_end d off) 0 h)
 
 -- ---- what four pieces come to
 
 module _ (o g s a : Piece) where
-  pub judged-owner-bad : bad o ≡ true → judged o g s a ≡ refused_parts Misshapen
+  pub judged_owner_bad : bad o ≡ true → judged o g s a ≡ refused_parts Misshapen
   unfolding judged
-  judged-owner-bad h = rw h
+  judged_owner_bad h = rw h
 
-  pub judged-group-bad : bad o ≡ false → bad g ≡ true → judged o g s a ≡ refused_parts Misshapen
+  pub judged_group_bad : bad o ≡ false → bad g ≡ true → judged o g s a ≡ refused_parts Misshapen
   unfolding judged
-  judged-group-bad h1 h = rw (h1, h)
+  judged_group_bad h1 h = rw (h1, h)
 
-  pub judged-sacl-bad : bad o ≡ false → bad g ≡ false → bad s ≡ true → judged o g s a ≡ refused_parts Misshapen
+  pub judged_sacl_bad : bad o ≡ false → bad g ≡ false → bad s ≡ true → judged o g s a ≡ refused_parts Misshapen
   unfolding judged
-  judged-sacl-bad h1 h2 h = rw (h1, h2, h)
+  judged_sacl_bad h1 h2 h = rw (h1, h2, h)
 
-  pub judged-dacl-bad : bad o ≡ false → bad g ≡ false → bad s ≡ false → bad a ≡ true → judged o g s a ≡ refused_parts Misshapen
+  pub judged_dacl_bad : bad o ≡ false → bad g ≡ false → bad s ≡ false → bad a ≡ true → judged o g s a ≡ refused_parts Misshapen
   unfolding judged
-  judged-dacl-bad h1 h2 h3 h = rw (h1, h2, h3, h)
+  judged_dacl_bad h1 h2 h3 h = rw (h1, h2, h3, h)
 
   module _ (h1 : bad o ≡ false) (h2 : bad g ≡ false) (h3 : bad s ≡ false) (h4 : bad a ≡ false) where
-    pub judged-ownerless : absent o ≡ true → judged o g s a ≡ refused_parts Ownerless
+    pub judged_ownerless : absent o ≡ true → judged o g s a ≡ refused_parts Ownerless
     unfolding judged
-    judged-ownerless h = rw (h1, h2, h3, h4, h)
+    judged_ownerless h = rw (h1, h2, h3, h4, h)
 
-    pub judged-foreign : absent o ≡ false → alien a ≡ true → judged o g s a ≡ refused_parts ForeignEntry
+    pub judged_foreign : absent o ≡ false → alien a ≡ true → judged o g s a ≡ refused_parts ForeignEntry
     unfolding judged
-    judged-foreign h5 h = rw (h1, h2, h3, h4, h5, h)
+    judged_foreign h5 h = rw (h1, h2, h3, h4, h5, h)
 
-    pub judged-whole : absent o ≡ false → alien a ≡ false → judged o g s a ≡ whole_parts o g s a
+    pub judged_whole : absent o ≡ false → alien a ≡ false → judged o g s a ≡ whole_parts o g s a
     unfolding judged
-    judged-whole h5 h6 = rw (h1, h2, h3, h4, h5, h6)
+    judged_whole h5 h6 = rw (h1, h2, h3, h4, h5, h6)
 
 -- the whole, from what the code read of it
 pub whole_made : (o g s a : Piece) (n : Bool) (x y z w : Extent) →
@@ -165,20 +165,20 @@ judged_inside n o g s a wo wg ws wa = go (bad o) (bad g) (bad s) (bad a) (absent
 -- ---- the bytes of an extent
 
 module _ (d : List ℕ) (a e : ℕ) where
-  pub part-in-turned : e < a → part_in d a e ≡ []
+  pub part_in_turned : e < a → part_in d a e ≡ []
   unfolding part_in
-  part-in-turned h = rw (lt-ltb e a h)
+  part_in_turned h = rw (lt-ltb e a h)
 
-  pub part-in-past : a ≤ e → length d < e → part_in d a e ≡ []
+  pub part_in_past : a ≤ e → length d < e → part_in d a e ≡ []
   unfolding part_in
-  part-in-past l h = rw (le-ltb e a l, lt-ltb (length d) e h)
+  part_in_past l h = rw (le-ltb e a l, lt-ltb (length d) e h)
 
-  pub part-in-inside : a ≤ e → e ≤ length d → part_in d a e ≡ part d a e
+  pub part_in_inside : a ≤ e → e ≤ length d → part_in d a e ≡ part d a e
   unfolding part_in
-  part-in-inside l h = rw (le-ltb e a l, le-ltb (length d) e h)
+  part_in_inside l h = rw (le-ltb e a l, le-ltb (length d) e h)
 
 -- a part that is handed out, by the extent that the reading gives it
 pub part_handed : (d l : List ℕ) (p : Parts) (x : Parts → Extent) →
     l ≡ part_in d (x p).from (x p).to → LiesIn (length d) (x p) → p ≡ parts_of d → l ≡ part d (x (parts_of d)).from (x (parts_of d)).to
 part_handed d l p x e w q =
-    e ∙ part-in-inside d (x p).from (x p).to w.0 w.1 ∙ ap (λ (r : Parts). part d (x r).from (x r).to) q
+    e ∙ part_in_inside d (x p).from (x p).to w.0 w.1 ∙ ap (λ (r : Parts). part d (x r).from (x r).to) q

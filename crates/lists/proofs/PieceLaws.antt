@@ -1,6 +1,6 @@
 -- What an offset of a descriptor names: an identity or a list, nothing, or something misshapen.
--- In order: the cases (SidPiece, sid-piece-cases, AclPiece, acl-piece-cases); a piece lies inside (sid-piece-within, acl-piece-within); the
--- list that stands there (Listed, piece-listed); nothing (absent-nothing).
+-- In order: the cases (SidPiece, sid_piece_cases, AclPiece, acl_piece_cases); a piece lies inside (sid_piece_within, acl_piece_within); the
+-- list that stands there (Listed, piece_listed); nothing (absent_nothing).
 -- Not here: the tests one by one, DescriptorSteps. Assumes nothing.
 use Prim.Native.Nat.{ℕ, ◌≤◌}
 use mathlib.Core.Path.{◌≡◌, refl, sym, ap, ◌∙◌}
@@ -23,8 +23,8 @@ use Rattle.lists.specs.declared.descriptor.Piece.TheVariants.{Bad, Absent, At, A
 use Rattle.sids.proofs.SidLaws.{sid_end_bounds}
 use Rattle.lists.proofs.AclSteps.{acl_end_bounds}
 use Rattle.lists.proofs.AclLaws.{acl_of_part}
-use Rattle.lists.proofs.DescriptorSteps.{sid-piece-absent, sid-piece-low, sid-piece-bad, sid-piece-at}
-use Rattle.lists.proofs.DescriptorSteps.{acl-piece-absent, acl-piece-low, acl-piece-bad, acl-piece-of}
+use Rattle.lists.proofs.DescriptorSteps.{sid_piece_absent, sid_piece_low, sid_piece_bad, sid_piece_at}
+use Rattle.lists.proofs.DescriptorSteps.{acl_piece_absent, acl_piece_low, acl_piece_bad, acl_piece_of}
 
 -- ---- what an offset names
 
@@ -38,11 +38,11 @@ pub sid_piece_cases : (d : List ℕ) (off : ℕ) → SidPiece d off
 sid_piece_cases d off = go (eqb off 0) refl (ltb off 20) refl (eqb (sid_end d off) 0) refl
   where
     go : (t : Bool) → eqb off 0 ≡ t → (u : Bool) → ltb off 20 ≡ u → (v : Bool) → eqb (sid_end d off) 0 ≡ v → SidPiece d off
-    go true e u f v g = nothing (eqb-true _ _ e) (sid-piece-absent d off (eqb-true _ _ e))
-    go false e true f v g = misshapen (sid-piece-low d off (eqb-false _ _ e) (ltb-true _ _ f))
-    go false e false f true g = misshapen (sid-piece-bad d off (ltb-false _ _ f) (eqb-true _ _ g))
+    go true e u f v g = nothing (eqb-true _ _ e) (sid_piece_absent d off (eqb-true _ _ e))
+    go false e true f v g = misshapen (sid_piece_low d off (eqb-false _ _ e) (ltb-true _ _ f))
+    go false e false f true g = misshapen (sid_piece_bad d off (ltb-false _ _ f) (eqb-true _ _ g))
     go false e false f false g =
-        stands (ltb-false _ _ f) (eqb-false _ _ g) (sid-piece-at d off (ltb-false _ _ f) (eqb-false _ _ g))
+        stands (ltb-false _ _ f) (eqb-false _ _ g) (sid_piece_at d off (ltb-false _ _ f) (eqb-false _ _ g))
 
 -- nothing, by the clear bit; a list at the offset, with what its entries are; or it is misshapen
 pub data AclPiece (deep : Bool) (d : List ℕ) (followed : Bool) (off : ℕ) : Type 0 where
@@ -52,14 +52,14 @@ pub data AclPiece (deep : Bool) (d : List ℕ) (followed : Bool) (off : ℕ) : T
       acl_piece deep d followed off ≡ piece_of off (acl_end d off) (scan_of deep (part d off (acl_end d off))) → AclPiece deep d followed off
 
 pub acl_piece_cases : (deep : Bool) (d : List ℕ) (followed : Bool) (off : ℕ) → AclPiece deep d followed off
-acl_piece_cases deep d false off = nothing refl (acl-piece-absent deep d off)
+acl_piece_cases deep d false off = nothing refl (acl_piece_absent deep d off)
 acl_piece_cases deep d true off = go (ltb off 20) refl (eqb (acl_end d off) 0) refl
   where
     go : (u : Bool) → ltb off 20 ≡ u → (v : Bool) → eqb (acl_end d off) 0 ≡ v → AclPiece deep d true off
-    go true f v g = misshapen (acl-piece-low deep d off (ltb-true _ _ f))
-    go false f true g = misshapen (acl-piece-bad deep d off (ltb-false _ _ f) (eqb-true _ _ g))
+    go true f v g = misshapen (acl_piece_low deep d off (ltb-true _ _ f))
+    go false f true g = misshapen (acl_piece_bad deep d off (ltb-false _ _ f) (eqb-true _ _ g))
     go false f false g =
-        stands refl (ltb-false _ _ f) (eqb-false _ _ g) (acl-piece-of deep d off (ltb-false _ _ f) (eqb-false _ _ g))
+        stands refl (ltb-false _ _ f) (eqb-false _ _ g) (acl_piece_of deep d off (ltb-false _ _ f) (eqb-false _ _ g))
 
 -- ---- a piece lies inside
 

@@ -1,5 +1,5 @@
--- Laws of simple lists (specs: Simple). In order: the entries one by one (simple-start, simple-end, simple-none, simple-other,
--- simple-unfit, simple-more); a simple list is plain (simple-plain). Assumes nothing.
+-- Laws of simple lists (specs: Simple). In order: the entries one by one (simple_start, simple_end, simple_none, simple_other,
+-- simple_unfit, simple_more); a simple list is plain (simple_plain). Assumes nothing.
 use Prim.Native.Nat.{ℕ, zero, suc, ◌+◌, ◌-◌, ◌<◌, ◌≤◌}
 use mathlib.Core.Path.{◌≡◌, refl, sym, ◌∙◌}
 use mathlib.Core.List.{List}
@@ -12,8 +12,8 @@ use Rattle.base.proofs.BoolLaws.{true_false}
 use Rattle.lists.specs.Acl.{head_end, entry_end, content_of, shaped, foreign, scan_of}
 use Rattle.lists.specs.Simple.{fits_as, simple_at, simple}
 use Rattle.conditions.specs.declared.scan.Scan.TheVariants.{Plain}
-use Rattle.lists.proofs.TypeLaws.{callback-low, named-low, audits-low}
-use Rattle.lists.proofs.EntrySteps.{entry-end-shallow, entry-end-named, content-plain}
+use Rattle.lists.proofs.TypeLaws.{callback_low, named_low, audits_low}
+use Rattle.lists.proofs.EntrySteps.{entry_end_shallow, entry_end_named, content_plain}
 
 -- ---- the entries, one by one
 
@@ -22,30 +22,30 @@ unfolding simple
 simple_start deep l = refl
 
 module _ (deep : Bool) (l : List ℕ) (m k at : ℕ) where
-  pub simple-end : m ≤ k → simple_at deep l (m - k) at ≡ true
+  pub simple_end : m ≤ k → simple_at deep l (m - k) at ≡ true
   unfolding simple_at
-  simple-end h = let z : m - k ≡ 0 = omega arith in rw z
+  simple_end h = let z : m - k ≡ 0 = omega arith in rw z
 
-  pub simple-none : k < m → head_end l at ≡ 0 → simple_at deep l (m - k) at ≡ false
+  pub simple_none : k < m → head_end l at ≡ 0 → simple_at deep l (m - k) at ≡ false
   unfolding simple_at
-  simple-none h e = let n : m - k ≡ suc (m - (k + 1)) = omega arith in rw (n, eq-eqb (head_end l at) 0 e)
+  simple_none h e = let n : m - k ≡ suc (m - (k + 1)) = omega arith in rw (n, eq-eqb (head_end l at) 0 e)
 
   module _ (to : ℕ) (ends : to ≡ head_end l at) (some : to ≡ 0 → ⊥) where
-    pub simple-other : k < m → 1 < byte_at l at → simple_at deep l (m - k) at ≡ false
+    pub simple_other : k < m → 1 < byte_at l at → simple_at deep l (m - k) at ≡ false
     unfolding simple_at
-    simple-other h o =
+    simple_other h o =
         let n : m - k ≡ suc (m - (k + 1)) = omega arith in
         rw (n, ← ends, ne_eqb to 0 some, lt-ltb 1 (byte_at l at) o)
 
-    pub simple-unfit : k < m → byte_at l at ≤ 1 → fits_as deep l at to ≡ false → simple_at deep l (m - k) at ≡ false
+    pub simple_unfit : k < m → byte_at l at ≤ 1 → fits_as deep l at to ≡ false → simple_at deep l (m - k) at ≡ false
     unfolding simple_at
-    simple-unfit h o f =
+    simple_unfit h o f =
         let n : m - k ≡ suc (m - (k + 1)) = omega arith in
         rw (n, ← ends, ne_eqb to 0 some, le-ltb 1 (byte_at l at) o, f)
 
-    pub simple-more : k < m → byte_at l at ≤ 1 → fits_as deep l at to ≡ true → simple_at deep l (m - k) at ≡ simple_at deep l (m - (k + 1)) to
+    pub simple_more : k < m → byte_at l at ≤ 1 → fits_as deep l at to ≡ true → simple_at deep l (m - k) at ≡ simple_at deep l (m - (k + 1)) to
     unfolding simple_at
-    simple-more h o f =
+    simple_more h o f =
         let n : m - k ≡ suc (m - (k + 1)) = omega arith in
         rw (n, ← ends, ne_eqb to 0 some, le-ltb 1 (byte_at l at) o, f)
 
@@ -53,8 +53,8 @@ module _ (deep : Bool) (l : List ℕ) (m k at : ℕ) where
 
 entry_simple : (deep : Bool) (l : List ℕ) (at : ℕ) → byte_at l at < 2 → fits_as deep l at (head_end l at) ≡ true →
     entry_end deep l at ≡ head_end l at
-entry_simple true l at n f = entry-end-named l at (named-low (byte_at l at) n) ∙ rw f refl
-entry_simple false l at n f = entry-end-shallow l at (audits-low (byte_at l at) n)
+entry_simple true l at n f = entry_end_named l at (named_low (byte_at l at) n) ∙ rw f refl
+entry_simple false l at n f = entry_end_shallow l at (audits_low (byte_at l at) n)
 
 walked : (deep : Bool) (l : List ℕ) (n at : ℕ) → simple_at deep l n at ≡ true → (shaped deep l n at ≡ true) × (foreign deep l n at ≡ false)
 unfolding simple_at shaped foreign
@@ -77,7 +77,7 @@ walked deep l (suc n) at p =
         let t : byte_at l at < 2 = omega arith in
         let i : entry_end deep l at ≡ e = entry_simple deep l at t z in
         let c : content_of deep l at e ≡ Plain =
-        content-plain deep l at e (named-low (byte_at l at) t) (callback-low (byte_at l at) t) in
+        content_plain deep l at e (named_low (byte_at l at) t) (callback_low (byte_at l at) t) in
         let s = r q in
         (rw (i, ne_eqb e 0 (eqb-false _ _ x), c) s.0, rw (i, c) s.1)
 

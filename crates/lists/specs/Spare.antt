@@ -46,7 +46,7 @@ AgreeAll l m zero at = Unit
 AgreeAll l m (suc n) at = Agree l m at (read_to (ace_at l at)) × AgreeAll l m n (ace_at l at).next
 
 -- two lists, as long, whose entries are the same but for spare bytes; the bytes after the last are free too. Of the heading only the count
--- is asked: revision and size are judged by `aclEnd`
+-- is asked: revision and size are judged by `acl_end`
 pub record SameButSpare (l m : List ℕ) : Type 0 where
   pub long : length l ≡ length m
   pub count : u16_at l 4 ≡ u16_at m 4

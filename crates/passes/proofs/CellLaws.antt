@@ -60,18 +60,18 @@ module _ (from to next : ℕ) (allows denies : Bool) (word q : ℕ) (low : from 
       let n : next % 512 ≡ next = omega arith in
       rw (p, r, n, times allows 536870912, times denies 1073741824)
 
-  pub cell-from : from_in made ≡ from
-  cell-from = first from q next (once allows) (once denies) word low small few (once_lt allows) (once_lt denies) _ cell_is
+  pub cell_from : from_in made ≡ from
+  cell_from = first from q next (once allows) (once denies) word low small few (once_lt allows) (once_lt denies) _ cell_is
 
-  pub cell-to : to_in made ≡ to
-  cell-to =
-      let f : made % 32768 ≡ from = cell-from in
+  pub cell_to : to_in made ≡ to
+  cell_to =
+      let f : made % 32768 ≡ from = cell_from in
       let s : made / 32768 % 32 ≡ q =
       second from q next (once allows) (once denies) word low small few (once_lt allows) (once_lt denies) _ cell_is in
       omega arith
 
-  pub cell-next : next_in made ≡ next
-  cell-next = third from q next (once allows) (once denies) word low small few (once_lt allows) (once_lt denies) _ cell_is
+  pub cell_next : next_in made ≡ next
+  cell_next = third from q next (once allows) (once denies) word low small few (once_lt allows) (once_lt denies) _ cell_is
 
   cell_allows : allows_in made ≡ allows
   cell_allows =
@@ -81,9 +81,9 @@ module _ (from to next : ℕ) (allows denies : Bool) (word q : ℕ) (low : from 
   cell_denies =
       once_is denies _ (fifth from q next (once allows) (once denies) word low small few (once_lt allows) (once_lt denies) _ cell_is)
 
-  pub cell-last : last_in made ≡ word
-  cell-last = sixth from q next (once allows) (once denies) word low small few (once_lt allows) (once_lt denies) _ cell_is
+  pub cell_last : last_in made ≡ word
+  cell_last = sixth from q next (once allows) (once denies) word low small few (once_lt allows) (once_lt denies) _ cell_is
 
-  pub cell-member : (s : List ℕ) → ◌≡◌ {A = Member} (member_in s made)
+  pub cell_member : (s : List ℕ) → ◌≡◌ {A = Member} (member_in s made)
       (record { sid = part s from to; allows = allows; denies = denies })
-  cell-member s = rw (cell-to, cell-from, cell_allows, cell_denies)
+  cell_member s = rw (cell_to, cell_from, cell_allows, cell_denies)

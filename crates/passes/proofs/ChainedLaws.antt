@@ -1,5 +1,5 @@
 -- What the chains of a crowd come to: a SID is found in the chain of its key exactly where it is among the crowd. In order: all seats of a
--- crowd, one after the other (chained-says); the crowd at a place of a listing (chains-say). One seat more is in LinkLaws.
+-- crowd, one after the other (chained_says); the crowd at a place of a listing (chains_say). One seat more is in LinkLaws.
 -- Assumes nothing.
 use Prim.Native.Nat.{ℕ, zero, suc, ◌+◌, ◌-◌, ◌<◌, ◌≤◌}
 use mathlib.Core.Bool.{Bool, true, false, cond, ◌&&◌, ◌||◌, or-false}
@@ -17,10 +17,10 @@ use Rattle.seats.specs.Key.{key_of}
 use Rattle.passes.specs.Matching.{among}
 use Rattle.seats.specs.Seats.{first_seat, seat_at, seated, from_seat}
 use Rattle.seats.specs.declared.seats.Seat.{Seat}
-use Rattle.passes.proofs.ChainsLaws.{chain-nought, among_shown}
-use Rattle.passes.proofs.LinkLaws.{Seated, Holds, With, linked-holds}
-use Rattle.passes.proofs.LinkSteps.{chained-none, chained-last, chained_more}
-use Rattle.seats.proofs.SeatsLaws.{crowd_first, seats-more}
+use Rattle.passes.proofs.ChainsLaws.{chain_nought, among_shown}
+use Rattle.passes.proofs.LinkLaws.{Seated, Holds, With, linked_holds}
+use Rattle.passes.proofs.LinkSteps.{chained_none, chained_last, chained_more}
+use Rattle.seats.proofs.SeatsLaws.{crowd_first, seats_more}
 
 -- ---- all of them
 
@@ -59,12 +59,12 @@ chained_says attrs s short m narrow zero i t x f o stands few allow w = go (eqb 
     go : (b : Bool) → eqb x.to 0 ≡ b → i + length (from_seat attrs s 0 x) ≤ m →
         among allow (shown_under (chained attrs s t i 0 x).heads (chained attrs s t i 0 x).seats s (key_of w)) w
         ≡ (among allow (from_seat attrs s 0 x) w || f allow w)
-    go true e l = rw (chained-none attrs s t i x 0 (eqb-true x.to 0 e), e) (o.says allow w)
+    go true e l = rw (chained_none attrs s t i x 0 (eqb-true x.to 0 e), e) (o.says allow w)
     go false e l =
         let k = eqb-false x.to 0 e in
         let m1 : i + 1 ≤ m = rw e at l in
-        rw (chained-last attrs s t i x 0 k (omega (arith, o.seats, m1)) refl, e)
-        ((linked-holds s short m narrow t i f o (omega arith) x k stands).says allow w
+        rw (chained_last attrs s t i x 0 k (omega (arith, o.seats, m1)) refl, e)
+        ((linked_holds s short m narrow t i f o (omega arith) x k stands).says allow w
         ∙ turned (same (part s x.from x.to) w && cond allow x.allows x.denies) false (f allow w))
 chained_says attrs s short m narrow (suc n) i t x f o stands few allow w =
     go (λ u g h l. chained_says attrs s short m narrow n (i + 1) u (seat_at attrs s x.next) g h (seat_seated attrs s x.next) l allow w)
@@ -79,13 +79,13 @@ chained_says attrs s short m narrow (suc n) i t x f o stands few allow w =
         (b : Bool) → eqb x.to 0 ≡ b → i + length (from_seat attrs s (suc n) x) ≤ m →
         among allow (shown_under (chained attrs s t i (suc n) x).heads (chained attrs s t i (suc n) x).seats s (key_of w)) w
         ≡ (among allow (from_seat attrs s (suc n) x) w || f allow w)
-    go rest true e l = rw (chained-none attrs s t i x (suc n) (eqb-true x.to 0 e), e) (o.says allow w)
+    go rest true e l = rw (chained_none attrs s t i x (suc n) (eqb-true x.to 0 e), e) (o.says allow w)
     go rest false e l =
         let k = eqb-false x.to 0 e in
-        let q : from_seat attrs s (suc n) x ≡ seated s x ∷ from_seat attrs s n y = seats-more attrs s x (suc n) n y k refl refl in
+        let q : from_seat attrs s (suc n) x ≡ seated s x ∷ from_seat attrs s n y = seats_more attrs s x (suc n) n y k refl refl in
         let m1 : i + suc (length (from_seat attrs s n y)) ≤ m = rw q at l in
         rw (chained_more attrs s t i x (suc n) k (omega (arith, o.seats, m1)) n y refl refl, q)
-        (rest (linked s t i x) (With s x f) (linked-holds s short m narrow t i f o (omega arith) x k stands) (omega arith)
+        (rest (linked s t i x) (With s x f) (linked_holds s short m narrow t i f o (omega arith) x k stands) (omega arith)
         ∙ turned (same (part s x.from x.to) w && cond allow x.allows x.denies) (among allow (from_seat attrs s n y) w)
         (f allow w))
 
@@ -100,15 +100,15 @@ module _ (heads seats : List ℕ) (clear : (k : ℕ) → get_or heads k 0 ≡ 0)
     low = λ k. omega (arith, clear k);
     says = λ allow w.
         ap (λ (k : ℕ). among allow (chain seats s (length seats - 1) k) w) (clear (key_of w))
-        ∙ ap (λ (l : List Member). among allow l w) (chain-nought seats s (length seats - 1));
+        ∙ ap (λ (l : List Member). among allow l w) (chain_nought seats s (length seats - 1));
     rows = λ allow w. refl;
   }
 
-  pub chains-say : (attrs : Bool) (s : List ℕ) (at : ℕ) → length s ≤ 32768 → length (crowd_at attrs s at) < length seats →
+  pub chains_say : (attrs : Bool) (s : List ℕ) (at : ℕ) → length s ≤ 32768 → length (crowd_at attrs s at) < length seats →
       (t : Tables) → t ≡ chains_of attrs s at (tables heads seats) → (allow : Bool) (w : List ℕ) →
       among allow (shown t.heads t.seats s) w ≡ among allow (crowd_at attrs s at) w
   unfolding chains_of
-  chains-say attrs s at short few t e allow w =
+  chains_say attrs s at short few t e allow w =
       let x = first_seat s at in
       let n = u32_at s x.to in
       let c : crowd_at attrs s at ≡ from_seat attrs s n x = crowd_first attrs s at in

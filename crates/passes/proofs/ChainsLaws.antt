@@ -1,6 +1,6 @@
--- Laws of the chains that a search goes through (specs: Chains). In order: a chain by the number that it starts from (chain-out,
--- chain-skip, chain_head); one turn of a search (chain-none, chain-hit, chain-last, chain-near, chain_more); what is not in the chain is
--- not read (chain-frame); whom the tables show is found under its key (among-shown). Assumes nothing.
+-- Laws of the chains that a search goes through (specs: Chains). In order: a chain by the number that it starts from (chain_out,
+-- chain_skip, chain_head); one turn of a search (chain_none, chain_hit, chain-last, chain_near, chain_more); what is not in the chain is
+-- not read (chain_frame); whom the tables show is found under its key (among_shown). Assumes nothing.
 use Prim.Native.Nat.{ℕ, zero, suc, ◌+◌, ◌-◌, ◌<◌, ◌≤◌}
 use mathlib.Core.Bool.{Bool, true, false, cond, ◌&&◌, ◌||◌, or-false}
 use mathlib.Core.List.{List, [], ◌∷◌, ◌++◌}
@@ -17,28 +17,28 @@ use Rattle.passes.specs.Chains.{next_in, sits_in, joined, row, near, chain, head
 use Rattle.seats.specs.Key.{key_of}
 use Rattle.passes.specs.Matching.{among}
 use Rattle.seats.proofs.KeyLaws.{key_lt}
-use Rattle.passes.proofs.RowLaws.{row-frame}
-use Rattle.passes.proofs.SitsLaws.{joined-hit, joined-miss}
+use Rattle.passes.proofs.RowLaws.{row_frame}
+use Rattle.passes.proofs.SitsLaws.{joined_hit, joined_miss}
 
 -- ---- a chain, by the number that it starts from
 
 module _ (seats s : List ℕ) where
-  pub chain-out : (i n : ℕ) → i < n → chain seats s i n ≡ []
+  pub chain_out : (i n : ℕ) → i < n → chain seats s i n ≡ []
   unfolding chain
-  chain-out zero n h = refl
-  chain-out (suc i) n h = rw (ne_eqb n (suc i) (λ e. omega arith)) (chain-out i n (omega arith))
+  chain_out zero n h = refl
+  chain_out (suc i) n h = rw (ne_eqb n (suc i) (λ e. omega arith)) (chain_out i n (omega arith))
 
-  pub chain-zero : (n : ℕ) → chain seats s 0 n ≡ []
+  pub chain_zero : (n : ℕ) → chain seats s 0 n ≡ []
   unfolding chain
-  chain-zero n = refl
+  chain_zero n = refl
 
   chain_below : (i n : ℕ) → n ≤ i → chain seats s (suc i) n ≡ chain seats s i n
   unfolding chain
   chain_below i n h = rw (ne_eqb n (suc i) (λ e. omega arith))
 
-  pub chain-skip : (i n : ℕ) → n ≤ i → chain seats s i n ≡ chain seats s n n
-  chain-skip zero n h = let z : n ≡ 0 = omega arith in rw z
-  chain-skip (suc i) n h = go (λ k. chain-skip i n k) (eqb n (suc i)) refl
+  pub chain_skip : (i n : ℕ) → n ≤ i → chain seats s i n ≡ chain seats s n n
+  chain_skip zero n h = let z : n ≡ 0 = omega arith in rw z
+  chain_skip (suc i) n h = go (λ k. chain_skip i n k) (eqb n (suc i)) refl
     where
       go : (n ≤ i → chain seats s i n ≡ chain seats s n n) → (b : Bool) → eqb n (suc i) ≡ b → chain seats s (suc i) n ≡ chain seats s n n
       go on true e = rw (eqb-true n (suc i) e)
@@ -48,13 +48,13 @@ module _ (seats s : List ℕ) where
           chain_below i n k ∙ on k
 
   -- from no number
-  pub chain-nought : (i : ℕ) → chain seats s i 0 ≡ []
-  chain-nought i = chain-skip i 0 (omega arith) ∙ chain-zero 0
+  pub chain_nought : (i : ℕ) → chain seats s i 0 ≡ []
+  chain_nought i = chain_skip i 0 (omega arith) ∙ chain_zero 0
 
   -- from a number that no seat has
   past : (m h : ℕ) → m ≤ h → chain seats s (m - 1) h ≡ []
-  past zero h l = chain-zero h
-  past (suc m) h l = chain-out (suc m - 1) h (omega arith)
+  past zero h l = chain_zero h
+  past (suc m) h l = chain_out (suc m - 1) h (omega arith)
 
   -- the first number of a SID's chain leads to the chain of its key
   pub chain_head : (heads w : List ℕ) (n : ℕ) → n ≡ head_of heads seats w → shown_under heads seats s (key_of w) ≡ chain seats s n n
@@ -65,30 +65,30 @@ module _ (seats s : List ℕ) where
 
       go : (b : Bool) → ltb h (length seats) ≡ b → n ≡ cond b h 0 → chain seats s (length seats - 1) h ≡ chain seats s n n
       go true q z =
-          chain-skip (length seats - 1) h (omega (arith, ltb-true h (length seats) q)) ∙ sym (ap (λ (m : ℕ). chain seats s m m) z)
-      go false q z = past (length seats) h (ltb-false h (length seats) q) ∙ sym (ap (λ (m : ℕ). chain seats s m m) z ∙ chain-zero 0)
+          chain_skip (length seats - 1) h (omega (arith, ltb-true h (length seats) q)) ∙ sym (ap (λ (m : ℕ). chain seats s m m) z)
+      go false q z = past (length seats) h (ltb-false h (length seats) q) ∙ sym (ap (λ (m : ℕ). chain seats s m m) z ∙ chain_zero 0)
 
   -- what stands at other numbers is not read
-  pub chain-frame : (i c j n : ℕ) → j < i → chain (set seats i c) s j n ≡ chain seats s j n
+  pub chain_frame : (i c j n : ℕ) → j < i → chain (set seats i c) s j n ≡ chain seats s j n
   unfolding chain
-  chain-frame i c zero n h = refl
-  chain-frame i c (suc j) n h =
+  chain_frame i c zero n h = refl
+  chain_frame i c (suc j) n h =
       let d : suc j ≡ i → ⊥ = λ e. omega arith in
       rw (
         get_or-set_other seats i (suc j) c 0 d,
-        row-frame seats s i c j (omega arith),
-        chain-frame i c j (next_in (get_or seats (suc j) 0)) (omega arith),
-        chain-frame i c j n (omega arith),
+        row_frame seats s i c j (omega arith),
+        chain_frame i c j (next_in (get_or seats (suc j) 0)) (omega arith),
+        chain_frame i c j n (omega arith),
       )
 
 -- ---- the first number, as the code reads it
 
 module _ (heads seats w : List ℕ) (n : ℕ) (read : n ≡ get_or heads (key_of w) 0) where
-  pub head-past : length seats ≤ n → head_of heads seats w ≡ 0
-  head-past h = rw (← read, le-ltb n (length seats) h)
+  pub head_past : length seats ≤ n → head_of heads seats w ≡ 0
+  head_past h = rw (← read, le-ltb n (length seats) h)
 
-  pub head-within : n < length seats → head_of heads seats w ≡ n
-  head-within h = rw (← read, lt-ltb n (length seats) h)
+  pub head_within : n < length seats → head_of heads seats w ≡ n
+  head_within h = rw (← read, lt-ltb n (length seats) h)
 
 -- ---- whether the next seat of a chain is near
 
@@ -120,32 +120,32 @@ unfolding chain
 chain_first seats s n less x one here = rw (here, one, eq-eqb (suc less) (suc less) refl)
 
 module _ (allow : Bool) (seats s w : List ℕ) (n : ℕ) where
-  pub chain-none : n ≡ 0 → among allow (chain seats s n n) w ≡ false
+  pub chain_none : n ≡ 0 → among allow (chain seats s n n) w ≡ false
   unfolding chain among
-  chain-none z = rw z
+  chain_none z = rw z
 
   module _ (less x : ℕ) (one : n ≡ suc less) (here : x ≡ get_or seats n 0) where
-    pub chain-hit : sits_in allow s x w ≡ true → among allow (chain seats s n n) w ≡ true
-    chain-hit e =
+    pub chain_hit : sits_in allow s x w ≡ true → among allow (chain seats s n n) w ≡ true
+    chain_hit e =
         ap (λ (l : List Member). among allow l w) (chain_first seats s n less x one here)
-        ∙ joined-hit allow s x w (rest seats s n less x) e
+        ∙ joined_hit allow s x w (rest seats s n less x) e
 
     chain_miss : sits_in allow s x w ≡ false → among allow (chain seats s n n) w ≡ among allow (rest seats s n less x) w
     chain_miss e =
         ap (λ (l : List Member). among allow l w) (chain_first seats s n less x one here)
-        ∙ joined-miss allow s x w (rest seats s n less x) e
+        ∙ joined_miss allow s x w (rest seats s n less x) e
 
     -- it goes on nearby: with all seats below
-    pub chain-near : sits_in allow s x w ≡ false → near n (next_in x) ≡ true →
+    pub chain_near : sits_in allow s x w ≡ false → near n (next_in x) ≡ true →
         among allow (chain seats s n n) w ≡ among allow (row seats s less) w
-    chain-near e p = chain_miss e ∙ rw p
+    chain_near e p = chain_miss e ∙ rw p
 
     pub chain_more : (next : ℕ) → sits_in allow s x w ≡ false → next ≡ next_in x → near n next ≡ false →
         among allow (chain seats s n n) w ≡ among allow (chain seats s next next) w
     chain_more next e p far =
         let below : next < n = far_below n next (λ z. omega arith) far in
         let q : near n (next_in x) ≡ false = ap (near n) (sym p) ∙ far in
-        chain_miss e ∙ rw (q, ← p) (ap (λ (l : List Member). among allow l w) (chain-skip seats s less next (omega arith)))
+        chain_miss e ∙ rw (q, ← p) (ap (λ (l : List Member). among allow l w) (chain_skip seats s less next (omega arith)))
 
 -- ---- whom the tables show
 

@@ -1,5 +1,5 @@
--- Two crowds among whom the same SIDs match answer alike: owner and self identity (hits-alike), conditions (admits-alike), a walk over any
--- entries (walked-alike), and normal evaluation (normal-alike). So the order of a crowd does not matter, nor whom a listing has twice.
+-- Two crowds among whom the same SIDs match answer alike: owner and self identity (hits_alike), conditions (admits_alike), a walk over any
+-- entries (walked_alike), and normal evaluation (normal_alike). So the order of a crowd does not matter, nor whom a listing has twice.
 -- Assumes nothing.
 use Prim.Native.Nat.{ℕ}
 use mathlib.Core.Bool.{Bool, true, false, cond, ◌&&◌}
@@ -27,20 +27,20 @@ module _ (ms ns : List Member) (same : Alike ms ns) where
   unfolding stands
   stands_alike allow w = rw (same allow w)
 
-  pub hits-alike : (owner self : List ℕ) → hits_of ms owner self ≡ hits_of ns owner self
+  pub hits_alike : (owner self : List ℕ) → hits_of ms owner self ≡ hits_of ns owner self
   unfolding hits_of
-  hits-alike owner self = rw (stands_alike true owner, stands_alike false owner, stands_alike true self, stands_alike false self)
+  hits_alike owner self = rw (stands_alike true owner, stands_alike false owner, stands_alike true self, stands_alike false self)
 
-  pub matches-alike : (allow : Bool) (h : Hits) (w : List ℕ) → matches allow ms h w ≡ matches allow ns h w
+  pub matches_alike : (allow : Bool) (h : Hits) (w : List ℕ) → matches allow ms h w ≡ matches allow ns h w
   unfolding matches
-  matches-alike allow h w = rw (same allow w)
+  matches_alike allow h w = rw (same allow w)
 
   -- so the same SIDs are members, and the same conditions admit
-  pub admits-alike : (h : Hits) (c : List ℕ) → admits (member ms h) c ≡ admits (member ns h) c
-  admits-alike h c = ap (λ (f : List ℕ → Bool). admits f c) (λ i w. matches-alike true h w i)
+  pub admits_alike : (h : Hits) (c : List ℕ) → admits (member ms h) c ≡ admits (member ns h) c
+  admits_alike h c = ap (λ (f : List ℕ → Bool). admits f c) (λ i w. matches_alike true h w i)
 
   speaks_alike : (h : Hits) (x : Entry) → speaks ms h x ≡ speaks ns h x
-  speaks_alike h x = ap₂ (λ (a b : Bool). a && b) (matches-alike (allows x) h x.sid) (admits-alike h x.condition)
+  speaks_alike h x = ap₂ (λ (a b : Bool). a && b) (matches_alike (allows x) h x.sid) (admits_alike h x.condition)
 
   taken_alike : (kind : ℕ) (h : Hits) (t : Tally) (x : Entry) → taken kind ms h t x ≡ taken kind ns h t x
   unfolding taken
@@ -52,8 +52,8 @@ module _ (ms ns : List Member) (same : Alike ms ns) where
   run_alike kind h (x ∷ es) t =
       ap (λ (u : Tally). run kind ms h u es) (taken_alike kind h t x) ∙ run_alike kind h es (taken kind ns h t x)
 
-  pub walked-alike : (kind : ℕ) (h : Hits) (es : List Entry) → walked_of kind ms h es ≡ walked_of kind ns h es
-  walked-alike kind h es = ap (λ (t : Tally). walked_by t (names_owner es)) (run_alike kind h es emptied)
+  pub walked_alike : (kind : ℕ) (h : Hits) (es : List Entry) → walked_of kind ms h es ≡ walked_of kind ns h es
+  walked_alike kind h es = ap (λ (t : Tally). walked_by t (names_owner es)) (run_alike kind h es emptied)
 
   pub normal_alike : (kind : ℕ) (h : Hits) (p : ℕ) (d : Dacl) → normal_of kind ms h p d ≡ normal_of kind ns h p d
   unfolding normal_of

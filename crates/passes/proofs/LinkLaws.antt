@@ -1,5 +1,5 @@
 -- One seat more in the chains of a crowd. In order: what holds of the tables after some seats, that a SID is found in the chain of its key
--- exactly where it is among those, and so in the row of all seats (Holds); one seat more (linked-holds). All of them are in ChainedLaws.
+-- exactly where it is among those, and so in the row of all seats (Holds); one seat more (linked_holds). All of them are in ChainedLaws.
 -- Assumes nothing.
 use Prim.Native.Nat.{ℕ, zero, suc, ◌+◌, ◌-◌, ◌*◌, ◌%◌, ◌<◌, ◌≤◌}
 use mathlib.Core.Bool.{Bool, true, false, cond, ◌&&◌, ◌||◌}
@@ -21,10 +21,10 @@ use Rattle.seats.specs.Key.{key_of, last_of}
 use Rattle.passes.specs.Matching.{among}
 use Rattle.seats.specs.Seats.{seated}
 use Rattle.seats.specs.declared.seats.Seat.{Seat}
-use Rattle.passes.proofs.CellLaws.{cell-to, cell-next, cell-last, cell-member}
-use Rattle.passes.proofs.ChainsLaws.{rest, chain-skip, chain-frame, chain_first}
+use Rattle.passes.proofs.CellLaws.{cell_to, cell_next, cell_last, cell_member}
+use Rattle.passes.proofs.ChainsLaws.{rest, chain_skip, chain_frame, chain_first}
 use Rattle.seats.proofs.KeyLaws.{key_lt}
-use Rattle.passes.proofs.RowLaws.{row_first, row-frame}
+use Rattle.passes.proofs.RowLaws.{row_first, row_frame}
 use Rattle.passes.proofs.SitsLaws.{joined_is}
 
 -- a SID stands in the seat, where anything does
@@ -68,9 +68,9 @@ module _ (s seats : List ℕ) (i : ℕ) (few : i < length seats) (c : ℕ) where
   -- a chain of earlier seats, whatever stands at the number
   earlier : (h : ℕ) → h < i → chain after s (length after - 1) h ≡ chain seats s (length seats - 1) h
   earlier h l =
-      chain-skip after s (length after - 1) h (omega (arith, wide))
-      ∙ chain-frame seats s i c h h l
-      ∙ sym (chain-skip seats s (length seats - 1) h (omega arith))
+      chain_skip after s (length after - 1) h (omega (arith, wide))
+      ∙ chain_frame seats s i c h h l
+      ∙ sym (chain_skip seats s (length seats - 1) h (omega arith))
 
   module _ (allow : Bool) (w : List ℕ) (f : Bool) (rows : among allow (row seats s (i - 1)) w ≡ f) (some : i ≡ 0 → ⊥) where
     here : c ≡ get_or after i 0
@@ -78,7 +78,7 @@ module _ (s seats : List ℕ) (i : ℕ) (few : i < length seats) (c : ℕ) where
 
     -- the row of earlier seats
     below : among allow (row after s (i - 1)) w ≡ f
-    below = ap (λ (l : List Member). among allow l w) (row-frame seats s i c (i - 1) (omega (arith, some))) ∙ rows
+    below = ap (λ (l : List Member). among allow l w) (row_frame seats s i c (i - 1) (omega (arith, some))) ∙ rows
 
     -- the row with the number: its own member, then the earlier ones
     whole : among allow (row after s i) w ≡ cond (sits_in allow s c w) true f
@@ -92,7 +92,7 @@ module _ (s seats : List ℕ) (i : ℕ) (few : i < length seats) (c : ℕ) where
         among allow (chain after s (length after - 1) i) w ≡ cond (sits_in allow s c w) true f
     newest h l n says =
         ap (λ (q : List Member). among allow q w)
-        (chain-skip after s (length after - 1) i (omega (arith, wide)) ∙ chain_first after s i (i - 1) c (omega (arith, some)) here)
+        (chain_skip after s (length after - 1) i (omega (arith, wide)) ∙ chain_first after s i (i - 1) c (omega (arith, some)) here)
         ∙ joined_is allow s c w (rest after s i (i - 1) c)
         ∙ ap (λ (b : Bool). cond (sits_in allow s c w) true b) (go (near i (next_in c)))
       where
@@ -100,9 +100,9 @@ module _ (s seats : List ℕ) (i : ℕ) (few : i < length seats) (c : ℕ) where
         chained_on =
             ap (λ (k : ℕ). among allow (chain after s (i - 1) k) w) n
             ∙ ap (λ (q : List Member). among allow q w)
-            (chain-frame seats s i c (i - 1) h (omega (arith, some))
-            ∙ chain-skip seats s (i - 1) h (omega arith)
-            ∙ sym (chain-skip seats s (length seats - 1) h (omega arith)))
+            (chain_frame seats s i c (i - 1) h (omega (arith, some))
+            ∙ chain_skip seats s (i - 1) h (omega arith)
+            ∙ sym (chain_skip seats s (length seats - 1) h (omega arith)))
             ∙ says
 
         go : (b : Bool) → among allow (cond b (row after s (i - 1)) (chain after s (i - 1) (next_in c))) w ≡ f
@@ -152,18 +152,18 @@ module _ (s : List ℕ) (short : length s ≤ 32768) (m : ℕ) (narrow : m ≤ 5
 
   next_is : next_in c ≡ before
   next_is = let z = ends in
-      cell-next x.from x.to before x.allows x.denies (last_of sid) z.words z.low z.small z.ends near_lt
+      cell_next x.from x.to before x.allows x.denies (last_of sid) z.words z.low z.small z.ends near_lt
 
   -- the cell's identity is the seat's
   sits_is : (allow : Bool) (w : List ℕ) → sits_in allow s c w ≡ (same sid w && cond allow x.allows x.denies)
   sits_is allow w =
       let z = ends in
       let d : to_in c ≡ x.to =
-      cell-to x.from x.to before x.allows x.denies (last_of sid) z.words z.low z.small z.ends near_lt in
+      cell_to x.from x.to before x.allows x.denies (last_of sid) z.words z.low z.small z.ends near_lt in
       let l : last_in c ≡ last_of sid =
-      cell-last x.from x.to before x.allows x.denies (last_of sid) z.words z.low z.small z.ends near_lt in
+      cell_last x.from x.to before x.allows x.denies (last_of sid) z.words z.low z.small z.ends near_lt in
       let y : member_in s c ≡ seated s x =
-      cell-member x.from x.to before x.allows x.denies (last_of sid) z.words z.low z.small z.ends near_lt s in
+      cell_member x.from x.to before x.allows x.denies (last_of sid) z.words z.low z.small z.ends near_lt s in
       held allow w (member_in s c) y (le-ltb (length s) (to_in c) (omega (arith, z.inside, d)))
       (eq-eqb (last_in c) (last_of (member_in s c).sid) (l ∙ ap (λ (v : Member). last_of v.sid) (sym y)))
     where
@@ -220,6 +220,6 @@ module _ (s : List ℕ) (short : length s ≤ 32768) (m : ℕ) (narrow : m ≤ 5
       by allow w true e = mine allow w (eqb-true (key_of w) own e)
       by allow w false e = others allow w (eqb-false (key_of w) own e)
 
-  pub linked-holds : Holds s m (linked s t i x) (i + 1) (With s x f)
+  pub linked_holds : Holds s m (linked s t i x) (i + 1) (With s x f)
   unfolding linked
-  linked-holds = let z : i % 65536 ≡ i = omega arith in rw z held_on
+  linked_holds = let z : i % 65536 ≡ i = omega arith in rw z held_on

@@ -24,17 +24,17 @@ module _ (attrs : Bool) (s : List ℕ) (t : Tables) (i : ℕ) (x : Seat) where
   stopped (suc n) e = rw e
 
   -- no SID stands there
-  pub chained-none : (n : ℕ) → x.to ≡ 0 → chained attrs s t i n x ≡ t
-  chained-none n z = stopped n (rw (eq-eqb x.to 0 z))
+  pub chained_none : (n : ℕ) → x.to ≡ 0 → chained attrs s t i n x ≡ t
+  chained_none n z = stopped n (rw (eq-eqb x.to 0 z))
 
   -- there are no more numbers
-  pub chained-many : (n : ℕ) → (x.to ≡ 0 → ⊥) → length t.seats ≤ i → chained attrs s t i n x ≡ t
-  chained-many n k h = stopped n (rw (ne_eqb x.to 0 k, le-ltb i (length t.seats) h))
+  pub chained_many : (n : ℕ) → (x.to ≡ 0 → ⊥) → length t.seats ≤ i → chained attrs s t i n x ≡ t
+  chained_many n k h = stopped n (rw (ne_eqb x.to 0 k, le-ltb i (length t.seats) h))
 
   module _ (n : ℕ) (some : x.to ≡ 0 → ⊥) (few : i < length t.seats) where
-    pub chained-last : n ≡ 0 → chained attrs s t i n x ≡ linked s t i x
+    pub chained_last : n ≡ 0 → chained attrs s t i n x ≡ linked s t i x
     unfolding chained
-    chained-last z = rw (z, ne_eqb x.to 0 some, lt-ltb i (length t.seats) few)
+    chained_last z = rw (z, ne_eqb x.to 0 some, lt-ltb i (length t.seats) few)
 
     pub chained_more : (less : ℕ) (y : Seat) → n ≡ suc less → y ≡ seat_at attrs s x.next →
         chained attrs s t i n x ≡ chained attrs s (linked s t i x) (i + 1) less y

@@ -31,20 +31,20 @@ either true = refl
 either false = refl
 
 module _ (allow : Bool) (ms : List Member) (w : List ℕ) where
-  pub matches-virtual : (h : Hits) → virtual w ≡ true → matches allow ms h w ≡ virtual_matches allow h w
+  pub matches_virtual : (h : Hits) → virtual w ≡ true → matches allow ms h w ≡ virtual_matches allow h w
   unfolding matches
-  matches-virtual h v = first_of (same w owner_rights) (same w principal_self) (side allow h.owner) (side allow h.me)
+  matches_virtual h v = first_of (same w owner_rights) (same w principal_self) (side allow h.owner) (side allow h.me)
       (among allow ms w) v
 
-  pub matches-among : (h : Hits) → virtual w ≡ false → matches allow ms h w ≡ among allow ms w
+  pub matches_among : (h : Hits) → virtual w ≡ false → matches allow ms h w ≡ among allow ms w
   unfolding matches
-  matches-among h v = neither_of (same w owner_rights) (same w principal_self) (side allow h.owner) (side allow h.me)
+  matches_among h v = neither_of (same w owner_rights) (same w principal_self) (side allow h.owner) (side allow h.me)
       (among allow ms w) v
 
-  pub stands-virtual : virtual w ≡ true → stands allow ms w ≡ false
+  pub stands_virtual : virtual w ≡ true → stands allow ms w ≡ false
   unfolding stands
-  stands-virtual v = rw v (either (eqb (length w) 0))
+  stands_virtual v = rw v (either (eqb (length w) 0))
 
-  pub stands-empty : length w ≡ 0 → stands allow ms w ≡ false
+  pub stands_empty : length w ≡ 0 → stands allow ms w ≡ false
   unfolding stands
-  stands-empty z = rw (eq-eqb (length w) 0 z)
+  stands_empty z = rw (eq-eqb (length w) 0 z)

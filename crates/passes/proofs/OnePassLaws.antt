@@ -45,16 +45,16 @@ module _ (kind : ℕ) (ms : List Member) (h : Hits) where
   run_within [] t w = w
   run_within (x ∷ es) t w = run_within es (taken kind ms h t x) (taken_within t x w)
 
-  pub passed-within : (es : List Entry) → Within (passed kind ms h es) (all_bits kind)
+  pub passed_within : (es : List Entry) → Within (passed kind ms h es) (all_bits kind)
   unfolding Within
-  passed-within es = run_within es emptied (λ i e. true_false (sym e ∙ zero_bit i))
+  passed_within es = run_within es emptied (λ i e. true_false (sym e ∙ zero_bit i))
 
-  pub passed-lt : (es : List Entry) → passed kind ms h es < 2 ^ 32
-  passed-lt es = let k = within_lt 21 (passed kind ms h es) (all_bits kind) (passed-within es) (all_bits_lt kind) in omega (arith, k)
+  pub passed_lt : (es : List Entry) → passed kind ms h es < 2 ^ 32
+  passed_lt es = let k = within_lt 21 (passed kind ms h es) (all_bits kind) (passed_within es) (all_bits_lt kind) in omega (arith, k)
 
   -- 0x01000000 comes from no entry
-  pub no-security-from-entry : (es : List Entry) → bit (passed kind ms h es) 24 ≡ false
-  no-security-from-entry es = within_false (passed kind ms h es) (all_bits kind) 24 (passed-within es) (all_bits_high kind 24 (omega arith))
+  pub no_security_from_entry : (es : List Entry) → bit (passed kind ms h es) 24 ≡ false
+  no_security_from_entry es = within_false (passed kind ms h es) (all_bits kind) 24 (passed_within es) (all_bits_high kind 24 (omega arith))
 
 -- ---- "Each bit is decided by the first matching entry that has it"
 

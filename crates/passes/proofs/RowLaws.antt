@@ -1,5 +1,5 @@
--- Laws of the row of seats that a search goes down (specs: Chains): one turn (row-none, row-hit, row_more); four at once that have another
--- last word (row-four); what stands at other numbers is not read (row-frame). Assumes nothing.
+-- Laws of the row of seats that a search goes down (specs: Chains): one turn (row_none, row_hit, row_more); four at once that have another
+-- last word (row_four); what stands at other numbers is not read (row_frame). Assumes nothing.
 use Prim.Native.Nat.{ℕ, zero, suc, ◌-◌, ◌<◌, ◌≤◌}
 use mathlib.Core.Bool.{Bool, true, false, ◌||◌}
 use mathlib.Core.List.{List}
@@ -13,19 +13,19 @@ use Rattle.records.specs.Crowd.{Member}
 use Rattle.passes.specs.Chains.{last_in, sits_in, joined, row}
 use Rattle.seats.specs.Key.{last_of}
 use Rattle.passes.specs.Matching.{among}
-use Rattle.passes.proofs.SitsLaws.{sits-other, joined-hit, joined-miss}
+use Rattle.passes.proofs.SitsLaws.{sits_other, joined_hit, joined_miss}
 
 module _ (seats s : List ℕ) where
   pub row_first : (n less x : ℕ) → n ≡ suc less → x ≡ get_or seats n 0 → row seats s n ≡ joined s x (row seats s less)
   unfolding row
   row_first n less x one here = rw (here, one)
 
-  pub row-frame : (i c j : ℕ) → j < i → row (set seats i c) s j ≡ row seats s j
+  pub row_frame : (i c j : ℕ) → j < i → row (set seats i c) s j ≡ row seats s j
   unfolding row
-  row-frame i c zero h = refl
-  row-frame i c (suc j) h =
+  row_frame i c zero h = refl
+  row_frame i c (suc j) h =
       let d : suc j ≡ i → ⊥ = λ e. omega arith in
-      rw (get_or-set_other seats i (suc j) c 0 d, row-frame i c j (omega arith))
+      rw (get_or-set_other seats i (suc j) c 0 d, row_frame i c j (omega arith))
 
 -- one number down
 down : (k n : ℕ) → k < n → n - k ≡ suc (n - suc k)
@@ -41,28 +41,28 @@ module _ (allow : Bool) (seats s w : List ℕ) where
   abbrev Found : ℕ → Bool
   Found n = among allow (row seats s n) w
 
-  pub row-none : (n : ℕ) → n ≡ 0 → Found n ≡ false
+  pub row_none : (n : ℕ) → n ≡ 0 → Found n ≡ false
   unfolding row among
-  row-none n z = rw z
+  row_none n z = rw z
 
   module _ (n less x : ℕ) (one : n ≡ suc less) (here : x ≡ get_or seats n 0) where
-    pub row-hit : sits_in allow s x w ≡ true → Found n ≡ true
-    row-hit e =
-        ap (λ (l : List Member). among allow l w) (row_first seats s n less x one here) ∙ joined-hit allow s x w (row seats s less) e
+    pub row_hit : sits_in allow s x w ≡ true → Found n ≡ true
+    row_hit e =
+        ap (λ (l : List Member). among allow l w) (row_first seats s n less x one here) ∙ joined_hit allow s x w (row seats s less) e
 
     pub row_more : sits_in allow s x w ≡ false → Found n ≡ Found less
     row_more e =
-        ap (λ (l : List Member). among allow l w) (row_first seats s n less x one here) ∙ joined-miss allow s x w (row seats s less) e
+        ap (λ (l : List Member). among allow l w) (row_first seats s n less x one here) ∙ joined_miss allow s x w (row seats s less) e
 
   -- the SID in the seat of a number has the last word
   abbrev Ends : ℕ → Bool
   Ends n = eqb (last_in (get_or seats n 0)) (last_of w)
 
   row_past : (n less : ℕ) → n ≡ suc less → Ends n ≡ false → Found n ≡ Found less
-  row_past n less one e = row_more n less (get_or seats n 0) one refl (sits-other allow s (get_or seats n 0) w e)
+  row_past n less one e = row_more n less (get_or seats n 0) one refl (sits_other allow s (get_or seats n 0) w e)
 
-  pub row-four : (n : ℕ) → 4 ≤ n → ((Ends n || Ends (n - 1)) || (Ends (n - 2) || Ends (n - 3))) ≡ false → Found n ≡ Found (n - 4)
-  row-four n h e =
+  pub row_four : (n : ℕ) → 4 ≤ n → ((Ends n || Ends (n - 1)) || (Ends (n - 2) || Ends (n - 3))) ≡ false → Found n ≡ Found (n - 4)
+  row_four n h e =
       let all = neither (Ends n || Ends (n - 1)) (Ends (n - 2) || Ends (n - 3)) e in
       let upper = neither (Ends n) (Ends (n - 1)) all.0 in
       let lower = neither (Ends (n - 2)) (Ends (n - 3)) all.1 in

@@ -1,5 +1,5 @@
--- Laws of one cell, as a search meets it (specs: Chains): whether its identity is the SID, and matches, by the last words first (sits-other,
--- sits-out, sits-idle, sits-same); and what a cell adds to those after it (joined_is). Assumes nothing.
+-- Laws of one cell, as a search meets it (specs: Chains): whether its identity is the SID, and matches, by the last words first (sits_other,
+-- sits_out, sits_idle, sits_same); and what a cell adds to those after it (joined_is). Assumes nothing.
 use Prim.Native.Nat.{ℕ, ◌<◌, ◌≤◌}
 use mathlib.Core.Bool.{Bool, true, false, cond, ◌&&◌, and-false}
 use mathlib.Core.List.{List, ◌∷◌}
@@ -22,8 +22,8 @@ module _ (allow : Bool) (s : List ℕ) (x : ℕ) (w : List ℕ) where
   side = cond allow (allows_in x) (denies_in x)
 
   -- the SID's last word is another
-  pub sits-other : eqb (last_in x) (last_of w) ≡ false → sits_in allow s x w ≡ false
-  sits-other d = go (same sid w) refl
+  pub sits_other : eqb (last_in x) (last_of w) ≡ false → sits_in allow s x w ≡ false
+  sits_other d = go (same sid w) refl
     where
       either : (b : Bool) → cond b false false ≡ false
       either true = refl
@@ -33,14 +33,14 @@ module _ (allow : Bool) (s : List ℕ) (x : ℕ) (w : List ℕ) where
       go true e = rw (ap last_of (same_eq sid w e), d, either (ltb (length s) (to_in x)))
       go false e = and-false (holds_one s x)
 
-  pub sits-out : length s < to_in x → sits_in allow s x w ≡ false
-  sits-out h = rw (lt-ltb (length s) (to_in x) h)
+  pub sits_out : length s < to_in x → sits_in allow s x w ≡ false
+  sits_out h = rw (lt-ltb (length s) (to_in x) h)
 
-  pub sits-idle : side ≡ false → sits_in allow s x w ≡ false
-  sits-idle e = rw (e, and-false (same sid w), and-false (holds_one s x))
+  pub sits_idle : side ≡ false → sits_in allow s x w ≡ false
+  sits_idle e = rw (e, and-false (same sid w), and-false (holds_one s x))
 
-  pub sits-same : eqb (last_in x) (last_of w) ≡ true → to_in x ≤ length s → side ≡ true → same sid w ≡ sits_in allow s x w
-  sits-same d h e = go (same sid w) refl
+  pub sits_same : eqb (last_in x) (last_of w) ≡ true → to_in x ≤ length s → side ≡ true → same sid w ≡ sits_in allow s x w
+  sits_same d h e = go (same sid w) refl
     where
       go : (b : Bool) → same sid w ≡ b → b ≡ (holds_one s x && (b && side))
       go true p = rw (le-ltb (length s) (to_in x) h, ap last_of (same_eq sid w p), d, e)
@@ -55,8 +55,8 @@ module _ (allow : Bool) (s : List ℕ) (x : ℕ) (w : List ℕ) where
       go true = refl
       go false = refl
 
-  pub joined-hit : (ms : List Member) → sits_in allow s x w ≡ true → among allow (joined s x ms) w ≡ true
-  joined-hit ms e = joined_is ms ∙ rw e
+  pub joined_hit : (ms : List Member) → sits_in allow s x w ≡ true → among allow (joined s x ms) w ≡ true
+  joined_hit ms e = joined_is ms ∙ rw e
 
-  pub joined-miss : (ms : List Member) → sits_in allow s x w ≡ false → among allow (joined s x ms) w ≡ among allow ms w
-  joined-miss ms e = joined_is ms ∙ rw e
+  pub joined_miss : (ms : List Member) → sits_in allow s x w ≡ false → among allow (joined s x ms) w ≡ among allow ms w
+  joined_miss ms e = joined_is ms ∙ rw e

@@ -97,20 +97,20 @@ unfolding entries_by_length_at
 entries_end list n at z = rw z
 
 module _ (list : List ℕ) (n less at : ℕ) (a : Ace) (here : a ≡ ace_by_length list at) (one : n ≡ suc less) where
-  pub entries-bad : a.next ≡ 0 → entries_by_length_at list n at ≡ []
+  pub entries_bad : a.next ≡ 0 → entries_by_length_at list n at ≡ []
   unfolding entries_by_length_at
-  entries-bad z = rw (one, ← here, eq-eqb a.next 0 z)
+  entries_bad z = rw (one, ← here, eq-eqb a.next 0 z)
 
   entries_on : (a.next ≡ 0 → ⊥) → entries_by_length_at list n at ≡ entry_of list a ∷ entries_by_length_at list less a.next
   unfolding entries_by_length_at
   entries_on k = rw (one, ← here, ne_eqb a.next 0 k)
 
   -- one entry on, with the tally and the naming that it leaves
-  pub walk-on : (kind : ℕ) (ms : List Member) (h : Hits) (t t2 : Tally) (named named2 : Bool) → (a.next ≡ 0 → ⊥) →
+  pub walk_on : (kind : ℕ) (ms : List Member) (h : Hits) (t t2 : Tally) (named named2 : Bool) → (a.next ≡ 0 → ⊥) →
       named2 ≡ (named || (counts (entry_of list a) && same (part list a.from a.to) owner_rights)) →
       t2 ≡ taken kind ms h t (entry_of list a) →
       walked_from kind ms h t named (entries_by_length_at list n at) ≡ walked_from kind ms h t2 named2 (entries_by_length_at list less a.next)
-  walk-on kind ms h t t2 named named2 k p q =
+  walk_on kind ms h t t2 named named2 k p q =
       ap (λ (es : List Entry). walked_from kind ms h t named es) (entries_on k)
       ∙ walked_step kind ms h t named (entry_of list a) (entries_by_length_at list less a.next)
       ∙ sym (ap₂ (λ (u : Tally) (b : Bool). walked_from kind ms h u b (entries_by_length_at list less a.next)) q p)
@@ -118,14 +118,14 @@ module _ (list : List ℕ) (n less at : ℕ) (a : Ace) (here : a ≡ ace_by_leng
 -- ---- whether S-1-3-4 was named before, or is by the entry
 
 module _ (named : Bool) (x : Entry) where
-  pub names-skipped : skipped x ≡ true → named ≡ (named || (counts x && same x.sid owner_rights))
-  names-skipped e = rw (e, or-false named)
+  pub names_skipped : skipped x ≡ true → named ≡ (named || (counts x && same x.sid owner_rights))
+  names_skipped e = rw (e, or-false named)
 
-  pub names-other : virtual x.sid ≡ false → named ≡ (named || (counts x && same x.sid owner_rights))
-  names-other v = rw ((neither (same x.sid owner_rights) (same x.sid principal_self) v).0, and-false (counts x), or-false named)
+  pub names_other : virtual x.sid ≡ false → named ≡ (named || (counts x && same x.sid owner_rights))
+  names_other v = rw ((neither (same x.sid owner_rights) (same x.sid principal_self) v).0, and-false (counts x), or-false named)
 
-  pub names-counted : skipped x ≡ false → (named || same x.sid owner_rights) ≡ (named || (counts x && same x.sid owner_rights))
-  names-counted e = rw e
+  pub names_counted : skipped x ≡ false → (named || same x.sid owner_rights) ≡ (named || (counts x && same x.sid owner_rights))
+  names_counted e = rw e
 
 pub walk_start : (kind : ℕ) (ms : List Member) (h : Hits) (list : List ℕ) (n : ℕ) (t : Tally) → n ≡ u16_at list 4 → t ≡ emptied →
     walked_of kind ms h (entries_by_length list) ≡ walked_from kind ms h t false (entries_by_length_at list (n - 0) 8)

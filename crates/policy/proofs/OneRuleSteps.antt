@@ -94,29 +94,29 @@ module _ (s : List ℕ) (applies dacl sacl staged last : Section) where
       a
       (λ z. judged_lists z (list_in s dacl) (maybe_in false s sacl) (maybe_in true s staged) (maybe_in false s last))
 
-  pub rule-applies : is_broken (applies_in s applies) ≡ true → rule_of s applies dacl sacl staged last ≡ no_rule
-  rule-applies h = rule_is ∙ rw h
+  pub rule_applies : is_broken (applies_in s applies) ≡ true → rule_of s applies dacl sacl staged last ≡ no_rule
+  rule_applies h = rule_is ∙ rw h
 
   module _ (fine : is_broken (applies_in s applies) ≡ false) where
-    pub rule-dacl : is_broken (list_in s dacl) ≡ true → rule_of s applies dacl sacl staged last ≡ no_rule
-    rule-dacl h = rule_is ∙ rw (fine, h)
+    pub rule_dacl : is_broken (list_in s dacl) ≡ true → rule_of s applies dacl sacl staged last ≡ no_rule
+    rule_dacl h = rule_is ∙ rw (fine, h)
 
-    pub rule-sacl : is_broken (list_in s dacl) ≡ false → is_broken (maybe_in false s sacl) ≡ true →
+    pub rule_sacl : is_broken (list_in s dacl) ≡ false → is_broken (maybe_in false s sacl) ≡ true →
         rule_of s applies dacl sacl staged last ≡ no_rule
-    rule-sacl e h = rule_is ∙ rw (fine, e, h)
+    rule_sacl e h = rule_is ∙ rw (fine, e, h)
 
-    pub rule-staged : is_broken (list_in s dacl) ≡ false → is_broken (maybe_in false s sacl) ≡ false → is_broken (maybe_in true s staged) ≡ true →
+    pub rule_staged : is_broken (list_in s dacl) ≡ false → is_broken (maybe_in false s sacl) ≡ false → is_broken (maybe_in true s staged) ≡ true →
         rule_of s applies dacl sacl staged last ≡ no_rule
-    rule-staged e x h = rule_is ∙ rw (fine, e, x, h)
+    rule_staged e x h = rule_is ∙ rw (fine, e, x, h)
 
-    pub rule-last : is_broken (list_in s dacl) ≡ false → is_broken (maybe_in false s sacl) ≡ false → is_broken (maybe_in true s staged) ≡ false →
+    pub rule_last : is_broken (list_in s dacl) ≡ false → is_broken (maybe_in false s sacl) ≡ false → is_broken (maybe_in true s staged) ≡ false →
         is_broken (maybe_in false s last) ≡ true → rule_of s applies dacl sacl staged last ≡ no_rule
-    rule-last e x t h = rule_is ∙ rw (fine, e, x, t, h)
+    rule_last e x t h = rule_is ∙ rw (fine, e, x, t, h)
 
-    pub rule-whole : is_broken (list_in s dacl) ≡ false → is_broken (maybe_in false s sacl) ≡ false → is_broken (maybe_in true s staged) ≡ false →
+    pub rule_whole : is_broken (list_in s dacl) ≡ false → is_broken (maybe_in false s sacl) ≡ false → is_broken (maybe_in true s staged) ≡ false →
         is_broken (maybe_in false s last) ≡ false →
         rule_of s applies dacl sacl staged last ≡ made (applies_in s applies) (list_in s dacl) (maybe_in true s staged)
-    rule-whole e x t y = rule_is ∙ rw (fine, e, x, t, y)
+    rule_whole e x t y = rule_is ∙ rw (fine, e, x, t, y)
 
     -- the rule, from what the code found of its sections
     pub rule_found : is_broken (list_in s dacl) ≡ false → is_broken (maybe_in false s sacl) ≡ false → is_broken (maybe_in true s staged) ≡ false →
@@ -133,12 +133,12 @@ module _ (s : List ℕ) (applies dacl sacl staged last : Section) where
           staged_sacl = last;
         })
         (rule_of s applies dacl sacl staged last)
-    rule_found de dx dt dy u a e t o p q r = rw (r, o, p, q) (sym (rule-whole de dx dt dy))
+    rule_found de dx dt dy u a e t o p q r = rw (r, o, p, q) (sym (rule_whole de dx dt dy))
 
   -- a misshapen rule, as the code answers it
-  pub rule-none : (r : Rule) → r ≡ no_rule → rule_of s applies dacl sacl staged last ≡ no_rule →
+  pub rule_none : (r : Rule) → r ≡ no_rule → rule_of s applies dacl sacl staged last ≡ no_rule →
       (r ≡ rule_of s applies dacl sacl staged last) × Placed s r
-  rule-none r e h =
+  rule_none r e h =
       let n : r.next ≡ 0 = ap (λ (x : Rule). x.next) e in (
         e ∙ sym h,
         (

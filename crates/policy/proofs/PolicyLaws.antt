@@ -1,6 +1,6 @@
--- What an accepted policy is. In order: a rule that is well shaped (shaped-rule), and found by its sections alone (step_same); plain lists
--- and a plain applies_to (acl-plain, plain-rule); the rules of an accepted policy: each is there and has plain lists (sound-rules), there
--- are as many as the heading says (sound-count), and they are found by the lengths of their sections alone (sound-by-lengths). Assumes
+-- What an accepted policy is. In order: a rule that is well shaped (shaped_rule), and found by its sections alone (step_same); plain lists
+-- and a plain applies_to (acl_plain, plain_rule); the rules of an accepted policy: each is there and has plain lists (sound_rules), there
+-- are as many as the heading says (sound_count), and they are found by the lengths of their sections alone (sound_by_lengths). Assumes
 -- nothing.
 use Prim.Native.Nat.{ℕ, zero, suc}
 use mathlib.Core.Path.{◌≡◌, refl, sym, ap, ◌∙◌}
@@ -12,7 +12,7 @@ use lib.Dec.{ltb, eqb}
 use borrow.Author.Tests.{ltb-true, ltb-false, ne_eqb, eqb-true, eqb-false}
 use Rattle.base.specs.Bytes.{byte_at, u32_at}
 use Rattle.base.proofs.BoolLaws.{neither}
-use Rattle.base.proofs.WordsLaws.{u32-at-out}
+use Rattle.base.proofs.WordsLaws.{u32_at_out}
 use Rattle.lists.proofs.ByLengthLaws.{entries_by_length_lem, entries_by_none}
 use Rattle.lists.specs.Acl.{acl_end, scan_of, entries_of}
 use Rattle.lists.specs.ByLength.{entries_by_length}
@@ -26,9 +26,9 @@ use Rattle.policy.specs.ByLengths.{rule_by_lengths, lists_by_lengths, rules_by_l
 use Rattle.policy.specs.declared.sections.Section.{Section}
 use Rattle.policy.specs.declared.one_rule.Rule.{Rule}
 use Rattle.policy.specs.declared.shape.Standing.TheVariants.{Sound, Misshapen}
-use Rattle.policy.proofs.OneRuleSteps.{applies_in, list_in, maybe_in, made, rule-applies, rule-dacl, rule-sacl}
-use Rattle.policy.proofs.OneRuleSteps.{rule-staged, rule-last, rule-whole}
-use Rattle.policy.proofs.PolicySteps.{standing-long, standing-short, standing-other, standing-many, standing-rules}
+use Rattle.policy.proofs.OneRuleSteps.{applies_in, list_in, maybe_in, made, rule_applies, rule_dacl, rule_sacl}
+use Rattle.policy.proofs.OneRuleSteps.{rule_staged, rule_last, rule_whole}
+use Rattle.policy.proofs.PolicySteps.{standing_long, standing_short, standing_other, standing_many, standing_rules}
 
 -- ---- a rule that is well shaped
 
@@ -41,8 +41,8 @@ pub record Shaped (s : List ℕ) (applies dacl sacl staged last : Section) : Typ
       ≡ made s applies dacl sacl staged last (applies_in s applies) (list_in s dacl) (maybe_in true s staged)
 
 module _ (s : List ℕ) (applies dacl sacl staged last : Section) where
-  pub shaped-rule : ((rule_of s applies dacl sacl staged last).next ≡ 0 → ⊥) → Shaped s applies dacl sacl staged last
-  shaped-rule h =
+  pub shaped_rule : ((rule_of s applies dacl sacl staged last).next ≡ 0 → ⊥) → Shaped s applies dacl sacl staged last
+  shaped_rule h =
       go
       (is_broken (applies_in s applies)) refl
       (is_broken (list_in s dacl)) refl
@@ -57,17 +57,17 @@ module _ (s : List ℕ) (applies dacl sacl staged last : Section) where
           (d : Bool) → is_broken (list_in s dacl) ≡ d → (x : Bool) → is_broken (maybe_in false s sacl) ≡ x →
           (t : Bool) → is_broken (maybe_in true s staged) ≡ t → (y : Bool) → is_broken (maybe_in false s last) ≡ y →
           Shaped s applies dacl sacl staged last
-      go true ea d ed x ex t et y ey = absurd (no (rule-applies s applies dacl sacl staged last ea))
-      go false ea true ed x ex t et y ey = absurd (no (rule-dacl s applies dacl sacl staged last ea ed))
-      go false ea false ed true ex t et y ey = absurd (no (rule-sacl s applies dacl sacl staged last ea ed ex))
-      go false ea false ed false ex true et y ey = absurd (no (rule-staged s applies dacl sacl staged last ea ed ex et))
-      go false ea false ed false ex false et true ey = absurd (no (rule-last s applies dacl sacl staged last ea ed ex et ey))
+      go true ea d ed x ex t et y ey = absurd (no (rule_applies s applies dacl sacl staged last ea))
+      go false ea true ed x ex t et y ey = absurd (no (rule_dacl s applies dacl sacl staged last ea ed))
+      go false ea false ed true ex t et y ey = absurd (no (rule_sacl s applies dacl sacl staged last ea ed ex))
+      go false ea false ed false ex true et y ey = absurd (no (rule_staged s applies dacl sacl staged last ea ed ex et))
+      go false ea false ed false ex false et true ey = absurd (no (rule_last s applies dacl sacl staged last ea ed ex et ey))
       go false ea false ed false ex false et false ey =
           record {
             fine = ea;
             effective = ed;
             stages = et;
-            is = rule-whole s applies dacl sacl staged last ea ed ex et ey;
+            is = rule_whole s applies dacl sacl staged last ea ed ex et ey;
           }
 
 -- the sections alone find the same rule
@@ -79,7 +79,7 @@ step_same s at h =
     let dacl = section_at s applies.to in
     let sacl = section_at s dacl.to in
     let staged = section_at s sacl.to in
-    let e = (shaped-rule s applies dacl sacl staged (section_at s staged.to) h).is in
+    let e = (shaped_rule s applies dacl sacl staged (section_at s staged.to) h).is in
     (ap (λ (r : Rule). r.next) (sym e), ap (lists_by_lengths s) (sym e))
 
 -- ---- plain lists
@@ -119,7 +119,7 @@ plain_rule s at h u =
     let dacl = section_at s applies.to in
     let sacl = section_at s dacl.to in
     let staged = section_at s sacl.to in
-    let f = shaped-rule s applies dacl sacl staged (section_at s staged.to) h in
+    let f = shaped_rule s applies dacl sacl staged (section_at s staged.to) h in
     let o =
     neither
     (is_foreign (applies_in s applies) || is_foreign (list_in s dacl))
@@ -166,9 +166,9 @@ sound_standing false b e = let z : ◌≡◌ {A = ℕ} 0 1 = cc in absurd (omega
 
 module _ (s : List ℕ) (sound : standing_of s ≡ Sound) where
   -- each rule is there, and every list of it scans plain. An empty policy counts no rules
-  pub sound-rules : PlainRules s (u32_at s 1) 5
+  pub sound_rules : PlainRules s (u32_at s 1) 5
   unfolding PlainRules
-  sound-rules =
+  sound_rules =
       go
       (eqb (length s) 0) refl
       (ltb 262144 (length s)) refl
@@ -183,15 +183,15 @@ module _ (s : List ℕ) (sound : standing_of s ≡ Sound) where
           (v : Bool) → eqb (byte_at s 0) 1 ≡ v → (n : Bool) → ltb 256 (u32_at s 1) ≡ n → PlainRules s (u32_at s 1) 5
       go true ea b eb d ed v ev n en =
           let z : length s ≡ 0 = eqb-true _ _ ea in
-          rw (u32-at-out s 1 (omega arith)) tt
-      go false ea true eb d ed v ev n en = absurd (no (standing-long s (ltb-true _ _ eb)))
-      go false ea false eb true ed v ev n en = absurd (no (standing-short s (ltb-false _ _ eb) (eqb-false _ _ ea) (ltb-true _ _ ed)))
+          rw (u32_at_out s 1 (omega arith)) tt
+      go false ea true eb d ed v ev n en = absurd (no (standing_long s (ltb-true _ _ eb)))
+      go false ea false eb true ed v ev n en = absurd (no (standing_short s (ltb-false _ _ eb) (eqb-false _ _ ea) (ltb-true _ _ ed)))
       go false ea false eb false ed false ev n en =
-          absurd (no (standing-other s (ltb-false _ _ eb) (ltb-false _ _ ed) (eqb-false _ _ ev)))
+          absurd (no (standing_other s (ltb-false _ _ eb) (ltb-false _ _ ed) (eqb-false _ _ ev)))
       go false ea false eb false ed true ev true en =
-          absurd (no (standing-many s (ltb-false _ _ eb) (ltb-false _ _ ed) (eqb-true _ _ ev) (ltb-true _ _ en)))
+          absurd (no (standing_many s (ltb-false _ _ eb) (ltb-false _ _ ed) (eqb-true _ _ ev) (ltb-true _ _ en)))
       go false ea false eb false ed true ev false en =
-          let f = standing-rules s (ltb-false _ _ eb) (ltb-false _ _ ed) (eqb-true _ _ ev) (ltb-false _ _ en) in
+          let f = standing_rules s (ltb-false _ _ eb) (ltb-false _ _ ed) (eqb-true _ _ ev) (ltb-false _ _ en) in
           let g = sound_standing (rules_shaped s (u32_at s 1) 5) (rules_unread s (u32_at s 1) 5) (sym f ∙ sound) in
           walked_plain s (u32_at s 1) 5 g.0 g.1
 
@@ -232,12 +232,12 @@ unfolding rules_of rules_at
 rules_are s = go (eqb (length s) 0) refl
   where
     go : (b : Bool) → eqb (length s) 0 ≡ b → cond b [] (rules_at s (u32_at s 1) 5) ≡ rules_at s (u32_at s 1) 5
-    go true e = let z : length s ≡ 0 = eqb-true _ _ e in rw (u32-at-out s 1 (omega arith))
+    go true e = let z : length s ≡ 0 = eqb-true _ _ e in rw (u32_at_out s 1 (omega arith))
     go false e = refl
 
 module _ (s : List ℕ) (sound : standing_of s ≡ Sound) where
-  pub sound-count : length (rules_of s) ≡ u32_at s 1
-  sound-count = ap length (rules_are s) ∙ plain_count s (u32_at s 1) 5 (sound-rules s sound)
+  pub sound_count : length (rules_of s) ≡ u32_at s 1
+  sound_count = ap length (rules_are s) ∙ plain_count s (u32_at s 1) 5 (sound_rules s sound)
 
-  pub sound-by-lengths : rules_by_lengths s ≡ rules_of s
-  sound-by-lengths = plain_found s (u32_at s 1) 5 (sound-rules s sound) ∙ sym (rules_are s)
+  pub sound_by_lengths : rules_by_lengths s ≡ rules_of s
+  sound_by_lengths = plain_found s (u32_at s 1) 5 (sound_rules s sound) ∙ sym (rules_are s)

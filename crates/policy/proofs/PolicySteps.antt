@@ -21,27 +21,27 @@ abbrev pub Left : List ℕ → Bool → ℕ → ℕ → Standing
 Left s met m at = standing (rules_shaped s m at) (met || rules_unread s m at)
 
 module _ (s : List ℕ) (met : Bool) (m k at : ℕ) where
-  pub rules-end : m ≤ k → at ≡ length s → Left s met (m - k) at ≡ cond met Unread Sound
+  pub rules_end : m ≤ k → at ≡ length s → Left s met (m - k) at ≡ cond met Unread Sound
   unfolding rules_shaped rules_unread
-  rules-end h e = let z : m - k ≡ 0 = omega arith in rw (z, eq-eqb at (length s) e) (go met)
+  rules_end h e = let z : m - k ≡ 0 = omega arith in rw (z, eq-eqb at (length s) e) (go met)
     where
       go : (t : Bool) → cond (t || false) Unread Sound ≡ cond t Unread Sound
       go true = refl
       go false = refl
 
-  pub rules-over : m ≤ k → (at ≡ length s → ⊥) → Left s met (m - k) at ≡ Misshapen
+  pub rules_over : m ≤ k → (at ≡ length s → ⊥) → Left s met (m - k) at ≡ Misshapen
   unfolding rules_shaped
-  rules-over h e = let z : m - k ≡ 0 = omega arith in rw (z, ne_eqb at (length s) e)
+  rules_over h e = let z : m - k ≡ 0 = omega arith in rw (z, ne_eqb at (length s) e)
 
   -- one rule more, as the code reads it
-  pub rules-broken : (r : Rule) → k < m → r ≡ rule_at s at → r.next ≡ 0 → Left s met (m - k) at ≡ Misshapen
+  pub rules_broken : (r : Rule) → k < m → r ≡ rule_at s at → r.next ≡ 0 → Left s met (m - k) at ≡ Misshapen
   unfolding rules_shaped
-  rules-broken r h e f = let n : m - k ≡ suc (m - (k + 1)) = omega arith in rw (n, ← e, eq-eqb r.next 0 f)
+  rules_broken r h e f = let n : m - k ≡ suc (m - (k + 1)) = omega arith in rw (n, ← e, eq-eqb r.next 0 f)
 
-  pub rules-more : (r : Rule) (now : Bool) → k < m → r ≡ rule_at s at → (r.next ≡ 0 → ⊥) → now ≡ (met || r.unread) →
+  pub rules_more : (r : Rule) (now : Bool) → k < m → r ≡ rule_at s at → (r.next ≡ 0 → ⊥) → now ≡ (met || r.unread) →
       Left s met (m - k) at ≡ Left s now (m - (k + 1)) r.next
   unfolding rules_shaped rules_unread
-  rules-more r now h e f g =
+  rules_more r now h e f g =
       let n : m - k ≡ suc (m - (k + 1)) = omega arith in
       rw (n, ← e, ne_eqb r.next 0 f, g)
       (ap (standing (rules_shaped s (m - (k + 1)) r.next)) (go (rules_unread s (m - (k + 1)) r.next) met r.unread))
@@ -55,27 +55,27 @@ module _ (s : List ℕ) (met : Bool) (m k at : ℕ) where
 -- ---- the whole
 
 module _ (s : List ℕ) where
-  pub standing-empty : length s ≡ 0 → standing_of s ≡ Sound
+  pub standing_empty : length s ≡ 0 → standing_of s ≡ Sound
   unfolding standing_of
-  standing-empty h = rw (eq-eqb (length s) 0 h)
+  standing_empty h = rw (eq-eqb (length s) 0 h)
 
-  pub standing-long : 262144 < length s → standing_of s ≡ Misshapen
+  pub standing_long : 262144 < length s → standing_of s ≡ Misshapen
   unfolding standing_of
-  standing-long h = rw (ne_eqb (length s) 0 (omega arith), lt-ltb 262144 (length s) h)
+  standing_long h = rw (ne_eqb (length s) 0 (omega arith), lt-ltb 262144 (length s) h)
 
   module _ (within : length s ≤ 262144) where
-    pub standing-short : (length s ≡ 0 → ⊥) → length s < 5 → standing_of s ≡ Misshapen
+    pub standing_short : (length s ≡ 0 → ⊥) → length s < 5 → standing_of s ≡ Misshapen
     unfolding standing_of
-    standing-short f h = rw (ne_eqb (length s) 0 f, le-ltb 262144 (length s) within, lt-ltb (length s) 5 h)
+    standing_short f h = rw (ne_eqb (length s) 0 f, le-ltb 262144 (length s) within, lt-ltb (length s) 5 h)
 
-    pub standing-other : 5 ≤ length s → (byte_at s 0 ≡ 1 → ⊥) → standing_of s ≡ Misshapen
+    pub standing_other : 5 ≤ length s → (byte_at s 0 ≡ 1 → ⊥) → standing_of s ≡ Misshapen
     unfolding standing_of
-    standing-other f h =
+    standing_other f h =
         rw (ne_eqb (length s) 0 (omega arith), le-ltb 262144 (length s) within, le-ltb (length s) 5 f, ne_eqb (byte_at s 0) 1 h)
 
-    pub standing-many : 5 ≤ length s → byte_at s 0 ≡ 1 → 256 < u32_at s 1 → standing_of s ≡ Misshapen
+    pub standing_many : 5 ≤ length s → byte_at s 0 ≡ 1 → 256 < u32_at s 1 → standing_of s ≡ Misshapen
     unfolding standing_of
-    standing-many f v h =
+    standing_many f v h =
         rw (
           ne_eqb (length s) 0 (omega arith),
           le-ltb 262144 (length s) within,
@@ -84,9 +84,9 @@ module _ (s : List ℕ) where
           lt-ltb 256 (u32_at s 1) h,
         )
 
-    pub standing-rules : 5 ≤ length s → byte_at s 0 ≡ 1 → u32_at s 1 ≤ 256 → standing_of s ≡ Left s false (u32_at s 1) 5
+    pub standing_rules : 5 ≤ length s → byte_at s 0 ≡ 1 → u32_at s 1 ≤ 256 → standing_of s ≡ Left s false (u32_at s 1) 5
     unfolding standing_of
-    standing-rules f v h =
+    standing_rules f v h =
         rw (
           ne_eqb (length s) 0 (omega arith),
           le-ltb 262144 (length s) within,

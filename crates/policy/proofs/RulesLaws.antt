@@ -1,7 +1,7 @@
--- What the rules of a policy come to. In order: rules after rules (ruled-append); bit by bit, what is left (left-bit, left-bit-all) and
--- where staging differs (differ-bit); whether a rule that applies has a SACL (audits-some, staged-audits-some); one rule more never adds a
--- bit (ruled-within); masks of 32 bits (ruled-left-lt, result-lt, ruled-differ-lt); crowds among whom the same SIDs match are left the same
--- (ruled-alike). Assumes nothing.
+-- What the rules of a policy come to. In order: rules after rules (ruled_append); bit by bit, what is left (left_bit, left_bit_all) and
+-- where staging differs (differ_bit); whether a rule that applies has a SACL (audits_some, staged_audits_some); one rule more never adds a
+-- bit (ruled_within); masks of 32 bits (ruled_left_lt, result_lt, ruled_differ_lt); crowds among whom the same SIDs match are left the same
+-- (ruled_alike). Assumes nothing.
 use Prim.Native.Nat.{ℕ, ◌^◌, ◌<◌, ◌≤◌}
 use mathlib.Core.Path.{◌≡◌, refl, sym, ap, ◌∙◌}
 use mathlib.Core.List.{List, [], ◌∷◌, ◌++◌}
@@ -15,8 +15,8 @@ use Rattle.records.specs.Crowd.{Member}
 use Rattle.masks.specs.KindsAndMasks.{system_security}
 use Rattle.passes.specs.OnePass.{passed}
 use Rattle.passes.specs.NormalEvaluation.{listed, names_owner, privileges_give, normal_of}
-use Rattle.passes.proofs.OnePassLaws.{passed-lt}
-use Rattle.passes.proofs.CrowdsLaws.{Alike, admits-alike, normal_alike}
+use Rattle.passes.proofs.OnePassLaws.{passed_lt}
+use Rattle.passes.proofs.CrowdsLaws.{Alike, admits_alike, normal_alike}
 use Rattle.passes.specs.declared.matching.Hits.{Hits}
 use Rattle.policy.specs.Rules.{Lists, result_of, ruled, unruled, there, applies_to, narrowed_by, judged_by, ruled_from, ruled_by}
 use Rattle.policy.specs.Rules.{every_rule, some_stage, some_audit, some_staged_audit}
@@ -38,11 +38,11 @@ either_lt false m l = omega arith
 module _ (kind : ℕ) (ms : List Member) (h : Hits) (p : ℕ) where
   -- ---- rules after rules
 
-  pub ruled-append : (st : Ruled) (rs qs : List Lists) →
+  pub ruled_append : (st : Ruled) (rs qs : List Lists) →
       ruled_from kind ms h p st (rs ++ qs) ≡ ruled_from kind ms h p (ruled_from kind ms h p st rs) qs
   unfolding ruled_from
-  ruled-append st [] qs = refl
-  ruled-append st (r ∷ rs) qs = ruled-append (judged_by kind ms h p st r) rs qs
+  ruled_append st [] qs = refl
+  ruled_append st (r ∷ rs) qs = ruled_append (judged_by kind ms h p st r) rs qs
 
   -- ---- bit by bit
 
@@ -59,19 +59,19 @@ module _ (kind : ℕ) (ms : List Member) (h : Hits) (p : ℕ) where
       go true = base.and_bit st.left.0 e i
       go false = sym (and-true (bit st.left.0 i))
 
-  pub left-bit : (st : Ruled) (rs : List Lists) (i : ℕ) →
+  pub left_bit : (st : Ruled) (rs : List Lists) (i : ℕ) →
       bit (ruled_from kind ms h p st rs).left.0 i ≡ (bit st.left.0 i && every_rule kind ms h p rs i)
   unfolding ruled_from every_rule
-  left-bit st [] i = sym (and-true (bit st.left.0 i))
-  left-bit st (r ∷ rs) i =
-      left-bit (judged_by kind ms h p st r) rs i
+  left_bit st [] i = sym (and-true (bit st.left.0 i))
+  left_bit st (r ∷ rs) i =
+      left_bit (judged_by kind ms h p st r) rs i
       ∙ ap (λ (b : Bool). b && every_rule kind ms h p rs i) (left_step st r i)
       ∙ and_assoc (bit st.left.0 i) (cond (applies_to ms h r) (bit (result_of kind ms h p r.effective) i) true)
       (every_rule kind ms h p rs i)
 
-  pub left-bit-all : (rs : List Lists) (i : ℕ) → i < 32 → bit (ruled_by kind ms h p rs).left.0 i ≡ every_rule kind ms h p rs i
-  left-bit-all rs i l =
-      left-bit unruled rs i
+  pub left_bit_all : (rs : List Lists) (i : ℕ) → i < 32 → bit (ruled_by kind ms h p rs).left.0 i ≡ every_rule kind ms h p rs i
+  left_bit_all rs i l =
+      left_bit unruled rs i
       ∙ ap (λ (b : Bool). b && every_rule kind ms h p rs i) (base.flip_bit 0 i (omega arith) l ∙ ap not (base.zero_bit i))
 
   differ_step : (st : Ruled) (r : Lists) (i : ℕ) (q : Bool) →
@@ -112,10 +112,10 @@ module _ (kind : ℕ) (ms : List Member) (h : Hits) (p : ℕ) where
 
   -- ---- SACLs of rules that apply
 
-  pub audits-some : (st : Ruled) (rs : List Lists) → (ruled_from kind ms h p st rs).has_sacl ≡ (st.has_sacl || some_audit ms h rs)
+  pub audits_some : (st : Ruled) (rs : List Lists) → (ruled_from kind ms h p st rs).has_sacl ≡ (st.has_sacl || some_audit ms h rs)
   unfolding ruled_from judged_by narrowed_by some_audit
-  audits-some st [] = sym (or-false st.has_sacl)
-  audits-some st (r ∷ rs) = audits-some (judged_by kind ms h p st r) rs ∙ go (applies_to ms h r)
+  audits_some st [] = sym (or-false st.has_sacl)
+  audits_some st (r ∷ rs) = audits_some (judged_by kind ms h p st r) rs ∙ go (applies_to ms h r)
     where
       q : Bool
       q = some_audit ms h rs
@@ -124,11 +124,11 @@ module _ (kind : ℕ) (ms : List Member) (h : Hits) (p : ℕ) where
       go true = or_assoc st.has_sacl (there r.sacl) q
       go false = refl
 
-  pub staged-audits-some : (st : Ruled) (rs : List Lists) →
+  pub staged_audits_some : (st : Ruled) (rs : List Lists) →
       (ruled_from kind ms h p st rs).has_staged_sacl ≡ (st.has_staged_sacl || some_staged_audit ms h rs)
   unfolding ruled_from judged_by narrowed_by some_staged_audit
-  staged-audits-some st [] = sym (or-false st.has_staged_sacl)
-  staged-audits-some st (r ∷ rs) = staged-audits-some (judged_by kind ms h p st r) rs ∙ go (applies_to ms h r)
+  staged_audits_some st [] = sym (or-false st.has_staged_sacl)
+  staged_audits_some st (r ∷ rs) = staged_audits_some (judged_by kind ms h p st r) rs ∙ go (applies_to ms h r)
     where
       q : Bool
       q = some_staged_audit ms h rs
@@ -140,17 +140,17 @@ module _ (kind : ℕ) (ms : List Member) (h : Hits) (p : ℕ) where
 
   -- ---- one rule more never adds a bit
 
-  pub ruled-within : (st : Ruled) (rs : List Lists) (r : Lists) (qs : List Lists) →
+  pub ruled_within : (st : Ruled) (rs : List Lists) (r : Lists) (qs : List Lists) →
       Within (ruled_from kind ms h p st (rs ++ r ∷ qs)).left.0 (ruled_from kind ms h p st (rs ++ qs)).left.0
   unfolding Within every_rule
-  ruled-within st rs r qs i e =
+  ruled_within st rs r qs i e =
       let before = ruled_from kind ms h p st rs in
       let d : (bit before.left.0 i && every_rule kind ms h p (r ∷ qs) i) ≡ true =
-      sym (left-bit before (r ∷ qs) i)
-      ∙ sym (ap (λ (x : Ruled). bit x.left.0 i) (ruled-append st rs (r ∷ qs)))
+      sym (left_bit before (r ∷ qs) i)
+      ∙ sym (ap (λ (x : Ruled). bit x.left.0 i) (ruled_append st rs (r ∷ qs)))
       ∙ e in
-      ap (λ (x : Ruled). bit x.left.0 i) (ruled-append st rs qs)
-      ∙ left-bit before qs i
+      ap (λ (x : Ruled). bit x.left.0 i) (ruled_append st rs qs)
+      ∙ left_bit before qs i
       ∙ and_skip (bit before.left.0 i) (cond (applies_to ms h r) (bit (result_of kind ms h p r.effective) i) true)
       (every_rule kind ms h p qs i) d
 
@@ -165,22 +165,22 @@ module _ (kind : ℕ) (ms : List Member) (h : Hits) (p : ℕ) where
       go true = B.and_le_l st.left.0 (result_of kind ms h p r.effective)
       go false = omega arith
 
-  pub ruled-left-lt : (rs : List Lists) → (ruled_by kind ms h p rs).left.0 < 2 ^ 32
-  ruled-left-lt rs = omega (arith, left_le unruled rs)
+  pub ruled_left_lt : (rs : List Lists) → (ruled_by kind ms h p rs).left.0 < 2 ^ 32
+  ruled_left_lt rs = omega (arith, left_le unruled rs)
 
   -- one result is a mask
-  pub result-lt : (es : List Entry) → result_of kind ms h p es < 2 ^ 32
+  pub result_lt : (es : List Entry) → result_of kind ms h p es < 2 ^ 32
   unfolding normal_of
-  result-lt es =
-      B.or_lt 32 (passed kind ms h es) _ (passed-lt kind ms h es)
+  result_lt es =
+      B.or_lt 32 (passed kind ms h es) _ (passed_lt kind ms h es)
       (B.or_lt 32 _ (privileges_give p) (either_lt (h.owner.allow && not (names_owner es)) 0x60000 (omega arith))
       (B.or_lt 32 _ _ (either_lt (has p 0x200) 0x80000 (omega arith)) (either_lt (has p 0x100) system_security (omega arith))))
 
-  pub ruled-differ-lt : ((es : List Entry) → result_of kind ms h p es < 2 ^ 32) → (st : Ruled) (rs : List Lists) → st.differ.0 < 2 ^ 32 →
+  pub ruled_differ_lt : ((es : List Entry) → result_of kind ms h p es < 2 ^ 32) → (st : Ruled) (rs : List Lists) → st.differ.0 < 2 ^ 32 →
       (ruled_from kind ms h p st rs).differ.0 < 2 ^ 32
   unfolding ruled_from judged_by narrowed_by
-  ruled-differ-lt f st [] l = l
-  ruled-differ-lt f st (r ∷ rs) l = ruled-differ-lt f (judged_by kind ms h p st r) rs (go (applies_to ms h r) r.stages)
+  ruled_differ_lt f st [] l = l
+  ruled_differ_lt f st (r ∷ rs) l = ruled_differ_lt f (judged_by kind ms h p st r) rs (go (applies_to ms h r) r.stages)
     where
       e : ℕ
       e = result_of kind ms h p r.effective
@@ -205,7 +205,7 @@ module _ (ms ns : List Member) (same : Alike ms ns) (kind : ℕ) (h : Hits) (p :
   unfolding judged_by narrowed_by
   judged_alike st r =
       rw (
-        admits-alike ms ns same h r.applies,
+        admits_alike ms ns same h r.applies,
         normal_alike ms ns same kind h p (listed r.effective),
         normal_alike ms ns same kind h p (listed r.staged),
       )

@@ -1,5 +1,5 @@
 -- What the rules of a policy leave, by each step of the code. For the functions of `rules`.
--- In order: a rule by its sections (step-read), a section with bytes in it (section-there), one result (result-is), one rule more
+-- In order: a rule by its sections (step_read), a section with bytes in it (section_there), one result (result_is), one rule more
 -- (narrowed-.., judged-..), the walk over all rules (Left, left-..).
 -- Not here: what all rules come to, RulesLaws. Assumes nothing.
 use Prim.Native.Nat.{ℕ, suc, ◌+◌, ◌-◌, ◌<◌, ◌≤◌}
@@ -51,32 +51,32 @@ section_there s x l = rw (length_part s x.from x.to l.0 l.1) (go (ltb x.from x.t
 
 module _ (kind : ℕ) (ms : List Member) (h : Hits) (p : ℕ) where
   -- one result, from the walk over its list
-  pub result-is : (es : List Entry) (w : Walked) (x : ℕ) → w ≡ walked_of kind ms h es → x ≡ normal_by kind true w h p →
+  pub result_is : (es : List Entry) (w : Walked) (x : ℕ) → w ≡ walked_of kind ms h es → x ≡ normal_by kind true w h p →
       x ≡ result_of kind ms h p es
   unfolding normal_by normal_of
-  result-is es w x e f = f ∙ rw e
+  result_is es w x e f = f ∙ rw e
 
   -- one rule more
   module _ (st : Ruled) (r : Lists) (e : ℕ) (effective : e ≡ result_of kind ms h p r.effective) (a b : Bool)
       (audits : a ≡ (st.has_sacl || there r.sacl)) (stages : b ≡ (st.has_staged_sacl || there r.staged_sacl)) where
-    pub narrowed-plain : r.stages ≡ false → ruled (and st.left.0 e) st.differ.0 a b ≡ narrowed_by kind ms h p st r
+    pub narrowed_plain : r.stages ≡ false → ruled (and st.left.0 e) st.differ.0 a b ≡ narrowed_by kind ms h p st r
     unfolding narrowed_by
-    narrowed-plain t = rw (t, effective, audits, stages)
+    narrowed_plain t = rw (t, effective, audits, stages)
 
-    pub narrowed-staged : (q : ℕ) → q ≡ result_of kind ms h p r.staged → r.stages ≡ true →
+    pub narrowed_staged : (q : ℕ) → q ≡ result_of kind ms h p r.staged → r.stages ≡ true →
         ruled (and st.left.0 e) (or st.differ.0 (differ e q)) a b ≡ narrowed_by kind ms h p st r
     unfolding narrowed_by
-    narrowed-staged q staged t = rw (t, effective, staged, audits, stages)
+    narrowed_staged q staged t = rw (t, effective, staged, audits, stages)
 
   -- where it applies, and where not
   module _ (st : Ruled) (r : Lists) where
-    pub judged-applies : applies_to ms h r ≡ true → judged_by kind ms h p st r ≡ narrowed_by kind ms h p st r
+    pub judged_applies : applies_to ms h r ≡ true → judged_by kind ms h p st r ≡ narrowed_by kind ms h p st r
     unfolding judged_by
-    judged-applies t = rw t
+    judged_applies t = rw t
 
-    pub judged-passed : applies_to ms h r ≡ false → judged_by kind ms h p st r ≡ st
+    pub judged_passed : applies_to ms h r ≡ false → judged_by kind ms h p st r ≡ st
     unfolding judged_by
-    judged-passed t = rw t
+    judged_passed t = rw t
 
   -- ---- the walk over all rules
 
@@ -90,14 +90,14 @@ module _ (kind : ℕ) (ms : List Member) (h : Hits) (p : ℕ) where
       unfolding rules_by_lengths_at ruled_from
       left_end l = let z : m - k ≡ 0 = omega arith in rw z
 
-      pub left-stop : (r : Rule) → k < m → r ≡ rule_by_lengths s at → r.next ≡ 0 → Left st (m - k) at ≡ st
+      pub left_stop : (r : Rule) → k < m → r ≡ rule_by_lengths s at → r.next ≡ 0 → Left st (m - k) at ≡ st
       unfolding rules_by_lengths_at ruled_from
-      left-stop r l e f = let n : m - k ≡ suc (m - (k + 1)) = omega arith in rw (n, ← e, eq-eqb r.next 0 f)
+      left_stop r l e f = let n : m - k ≡ suc (m - (k + 1)) = omega arith in rw (n, ← e, eq-eqb r.next 0 f)
 
       -- one rule more, as the code reads and judges it
-      pub left-more : (r : Rule) (next : Ruled) → k < m → r ≡ rule_by_lengths s at → (r.next ≡ 0 → ⊥) →
+      pub left_more : (r : Rule) (next : Ruled) → k < m → r ≡ rule_by_lengths s at → (r.next ≡ 0 → ⊥) →
           next ≡ judged_by kind ms h p st (lists_by_lengths s r) → Left st (m - k) at ≡ Left next (m - (k + 1)) r.next
       unfolding rules_by_lengths_at ruled_from
-      left-more r next l e f g =
+      left_more r next l e f g =
           let n : m - k ≡ suc (m - (k + 1)) = omega arith in
           rw (n, ← e, ne_eqb r.next 0 f, g)

@@ -1,9 +1,9 @@
 -- What is promised, in the request's own words, and where it is proved: each proof here is one line that cites the work.
--- The words mean: `checked`, the answer to a question, with its four masks since request 106 (access/specs/Status.antt); `fileAnswer`,
--- that to a question file (questions/specs/QuestionFile.antt); since request 105 `reportOf` and `fileReport`, the same with the bytes of
--- the trail, `inBuffer n`, in a lent buffer of n bytes, `Lent`, what a call hands out (access/specs/Reported.antt); `byRules`, the rules
--- of document 01 with no word on refusals, `eventsGiven`, the events of a question; `conditions`, the table of status numbers line by
--- line, and `lowest`; `trailConditions`, the same with 11 behind it; `Nothing`, neither right nor flag nor trail; `conversionInto`, what
+-- The words mean: `checked`, the answer to a question, with its four masks since request 106 (access/specs/Status.antt); `file_answer`,
+-- that to a question file (questions/specs/QuestionFile.antt); since request 105 `report_of` and `file_report`, the same with the bytes of
+-- the trail, `in_buffer n`, in a lent buffer of n bytes, `Lent`, what a call hands out (access/specs/Reported.antt); `by_rules`, the rules
+-- of document 01 with no word on refusals, `events_given`, the events of a question; `conditions`, the table of status numbers line by
+-- line, and `lowest`; `trail_conditions`, the same with 11 behind it; `Nothing`, neither right nor flag nor trail; `conversion_into`, what
 -- a converter comes to in a buffer of so many bytes; `SameButStrangers`, `unnumbered`, `SameButOneRule` (demands/specs: Accepted,
 -- Conditions, Conversions, Strangers, Trails). The dummies that demand 2 shuts out: cards/proofs/Dummies.antt. Assumes nothing.
 use Prim.Native.Nat.{ℕ}

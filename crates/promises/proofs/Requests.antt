@@ -1,22 +1,22 @@
 -- What the requests of document 02 promise beside the three demands, a heading for each that is built, and where it is proved: each proof
--- here is one line that cites the work. The words mean: `entryEnd true`, the place after a well shaped entry of a DACL, or 0; `scanOf true`,
--- what the entries of a DACL come to, `Plain` if they are accepted; `entriesOf`, what they are (lists/specs/Acl.antt); `LongEnough`,
--- `saidAt`, `SameButSpare` (lists/specs/Spare.antt); `read_all (held l)`, what a reader opened on a list gives, by the contracts of `opened`,
--- `current` and `stepped` (reader/specs/Reading.antt); `ReadTheSame` (demands/specs/LongEntries.antt); `namesOwner`, whether a list takes
--- the owner's two rights away, `listGives`, what it allows by itself, `normalOf`, what normal evaluation gives with it
--- (passes/specs/NormalEvaluation.antt); `OwnerEntry`, `GoesBy`, `OwnerAsks`, `ownersRights`, `itsList`, `byObject`
+-- here is one line that cites the work. The words mean: `entry_end true`, the place after a well shaped entry of a DACL, or 0; `scan_of true`,
+-- what the entries of a DACL come to, `Plain` if they are accepted; `entries_of`, what they are (lists/specs/Acl.antt); `LongEnough`,
+-- `said_at`, `SameButSpare` (lists/specs/Spare.antt); `read_all (held l)`, what a reader opened on a list gives, by the contracts of `opened`,
+-- `current` and `stepped` (reader/specs/Reading.antt); `ReadTheSame` (demands/specs/LongEntries.antt); `names_owner`, whether a list takes
+-- the owner's two rights away, `list_gives`, what it allows by itself, `normal_of`, what normal evaluation gives with it
+-- (passes/specs/NormalEvaluation.antt); `OwnerEntry`, `GoesBy`, `OwnerAsks`, `owners_rights`, `its_list`, `by_object`
 -- (demands/specs/OwnerEntries.antt); `number`, a number of at most so many bits at a place with the place after it, or none
--- (base/specs/Sevens.antt); `crowdAt`, whom a listing shows at a place (records/specs/Crowd.antt); `among`, whether one of them has a SID and
--- matches (passes/specs/Matching.antt); `chainsOf`, `shown` (passes/specs/Chains.antt); `outcome`, what an expression comes to for a
+-- (base/specs/Sevens.antt); `crowd_at`, whom a listing shows at a place (records/specs/Crowd.antt); `among`, whether one of them has a SID and
+-- matches (passes/specs/Matching.antt); `chains_of`, `shown` (passes/specs/Chains.antt); `outcome`, what an expression comes to for a
 -- membership test, `admits`, whether a condition is none or true (conditions/specs/Membership.antt), `shape`, `shape_of`, its faults
--- (conditions/specs/Condition.antt); `taken`, the tally after an entry (passes/specs/OnePass.antt); `Conditioned`, `conditionedBy`,
+-- (conditions/specs/Condition.antt); `taken`, the tally after an entry (passes/specs/OnePass.antt); `Conditioned`, `conditioned_by`,
 -- `applies` (demands/specs/SomeCallers.antt); `known`, `struck`, `SameButOneRule` (demands/specs/Strangers.antt); `asked`, the bits that a mask
 -- asks for (masks/specs/KindsAndMasks.antt); `bit`, the bit of a mask at a place (base/specs/Bits.antt); `Narrowing`, `FirstTwoStill`,
 -- `TakenOnce` (demands/specs/FourMasks.antt); `confines`, whether confinement applies to a token of these flags
--- (passes/specs/Confinement.antt); `tokenIn`, the token of a question, `eventsGiven`, its events (demands/specs/Accepted.antt);
--- `rulesOf`, the rules of a policy (policy/specs/Rules.antt); `byLists`, the answer by the access lists alone, `raisedFor`, whether a
--- staged SACL raises the flag (access/specs/Status.antt); `reportOf`, an answer and the bytes of its trail, `inBuffer n`, that in a lent
--- buffer of n bytes, `Lent`, what a call hands out (access/specs/Reported.antt); `trailBytes`, events as bytes (audit/specs/Trail.antt);
+-- (passes/specs/Confinement.antt); `token_in`, the token of a question, `events_given`, its events (demands/specs/Accepted.antt);
+-- `rules_of`, the rules of a policy (policy/specs/Rules.antt); `by_lists`, the answer by the access lists alone, `raised_for`, whether a
+-- staged SACL raises the flag (access/specs/Status.antt); `report_of`, an answer and the bytes of its trail, `in_buffer n`, that in a lent
+-- buffer of n bytes, `Lent`, what a call hands out (access/specs/Reported.antt); `trail_bytes`, events as bytes (audit/specs/Trail.antt);
 -- `Written`, a buffer with bytes at its front (demands/specs/Conversions.antt). Assumes nothing.
 use Prim.Native.Nat.{ℕ, ◌+◌, ◌*◌, ◌<◌, ◌≤◌}
 use mathlib.Core.Path.{◌≡◌}
@@ -148,7 +148,7 @@ children_apart = object-lists.answer_object
 
 -- ---- #103 Rules that apply to some callers. "Broken expressions give 6 or 9, other tokens 8 or 10; within an expression the first met
 -- from the left decides." Which of the three an expression is, broken, with an other token, or neither, does not depend on who is a member:
--- so it is judged without a token. That the numbers are given exactly then is `bad-input` of Promises.antt
+-- so it is judged without a token. That the numbers are given exactly then is `bad_input` of Promises.antt
 pub shape_apart : (member : List ℕ → Bool) (s : List ℕ) → shape_of (outcome member s) ≡ shape s
 shape_apart member s = shapes.shape_any (told_of member s) s
 
@@ -200,7 +200,7 @@ doors_met = (number32.Met.met, number48.Met.met, number64.Met.met)
 -- A byte below 128 is a number by itself, in every width of seven bits or more, and the next number begins behind it
 pub one_byte : (bits : ℕ) (s : List ℕ) (at : ℕ) → at < length s → byte_at s at < 128 → 7 ≤ bits →
     number bits s at ≡ some (byte_at s at) (at + 1)
-one_byte = steps.number-alone
+one_byte = steps.number_alone
 
 -- Any other byte is no number by itself: a number that begins with one takes more bytes, and is 128 or more, so that no longer form of a
 -- one_byte number is read
@@ -221,7 +221,7 @@ pub trail_written : (q : Question) (before after : List ℕ) (t : Traced) → Le
 trail_written = trail.trail_written
 
 -- "If the events do not fit: 11, last of all, nothing granted, nothing written": 11 exactly then, and with room enough, an exactly full
--- buffer included, the whole report. The rest is `bad-report`, `refused-report` and `refused-trail` of Promises.antt
+-- buffer included, the whole report. The rest is `bad_report`, `refused_report` and `refused_trail` of Promises.antt
 pub eleven_only : (n : ℕ) (q : Question) → (in_buffer n (report_of q)).answer.status ≡ 11 ↔ (Accepted q × (n < length (report_of q).trail))
 eleven_only = trail.eleven_only
 
@@ -245,11 +245,11 @@ pub flag_is : (q : Question) → Accepted q → (checked q).staged ≡ ((by_list
 flag_is = trail.flag_is
 
 -- ---- #106 Where did my rights go. "four masks: after normal evaluation, after confinement, after policy, and granted, each limited to asked
--- bits. Each lies within the one before; the last two are equal." Of every answer; what each mask is, `accepted-answer` of Promises.antt says
+-- bits. Each lies within the one before; the last two are equal." Of every answer; what each mask is, `accepted_answer` of Promises.antt says
 pub masks_narrow : (q : Question) → Narrowing (asked q.kind q.mask) (checked q)
 masks_narrow = four-masks.masks_narrow
 
--- "A refusal zeroes all four": `refused-check` and `refused-file` there. "Demand 3's equality covers all of them": `strangers-change-nothing`
+-- "A refusal zeroes all four": `refused_check` and `refused_file` there. "Demand 3's equality covers all of them": `strangers_change_nothing`
 -- there is an equation of whole answers. "a gained rule leaves the first two as they were":
 pub first_two_still : (p q : Question) → Accepted p → Accepted q → SameButOneRule p q → FirstTwoStill (checked p) (checked q)
 first_two_still = four-masks.first_two_still
@@ -274,7 +274,7 @@ pub chains_show : (heads seats : List ℕ) → ((k : ℕ) → get_or heads k 0 �
     (attrs : Bool) (s : List ℕ) (at : ℕ) → length s ≤ 32768 → length (crowd_at attrs s at) < length seats →
     (t : Tables) → t ≡ chains_of attrs s at (tables heads seats) → (allow : Bool) (w : List ℕ) →
     among allow (shown t.heads t.seats s) w ≡ among allow (crowd_at attrs s at) w
-chains_show = links.chains-say
+chains_show = links.chains_say
 
 -- The entries of a list that scans plain are found by their sizes and the counts of their SIDs alone
 pub by_length : (l : List ℕ) → scan_of true l ≡ Plain → entries_by_length l ≡ entries_of l

@@ -22,18 +22,18 @@ use Rattle.questions.specs.declared.file.Places.{Places}
 -- ---- a part
 
 module _ (s : List ℕ) (at : ℕ) where
-  pub blob-none : number 32 s at ≡ none → blob_at s at ≡ none
+  pub blob_none : number 32 s at ≡ none → blob_at s at ≡ none
   unfolding blob_at
-  blob-none e = rw e
+  blob_none e = rw e
 
   module _ (n a : ℕ) (e : number 32 s at ≡ some n a) where
-    pub blob-short : length s < a + n → blob_at s at ≡ none
+    pub blob_short : length s < a + n → blob_at s at ≡ none
     unfolding blob_at
-    blob-short l = rw (e, lt-leb (a + n) (length s) l)
+    blob_short l = rw (e, lt-leb (a + n) (length s) l)
 
-    pub blob-stands : a + n ≤ length s → blob_at s at ≡ some (part s a (a + n)) (a + n)
+    pub blob_stands : a + n ≤ length s → blob_at s at ≡ some (part s a (a + n)) (a + n)
     unfolding blob_at
-    blob-stands l = rw (e, le-leb (a + n) (length s) l)
+    blob_stands l = rw (e, le-leb (a + n) (length s) l)
 
 pub handed_none : (s : List ℕ) (at : ℕ) (b : Blob) → blob_at s at ≡ handed s b → b.ok ≡ false → blob_at s at ≡ none
 handed_none s at b e n = e ∙ rw n
@@ -53,14 +53,14 @@ module _ (s : List ℕ) where
   no_kind e = rw e
 
   module _ (k a : ℕ) (kind : number 32 s 0 ≡ some k a) where
-    pub no-mask : number 32 s a ≡ none → question_of s ≡ none
+    pub no_mask : number 32 s a ≡ none → question_of s ≡ none
     unfolding question_of
-    no-mask e = rw (kind, e)
+    no_mask e = rw (kind, e)
 
     module _ (m b : ℕ) (mask : number 32 s a ≡ some m b) where
-      pub no-token : blob_at s b ≡ none → question_of s ≡ none
+      pub no_token : blob_at s b ≡ none → question_of s ≡ none
       unfolding question_of
-      no-token e = rw (kind, mask, e)
+      no_token e = rw (kind, mask, e)
 
       module _ (t : List ℕ) (c : ℕ) (token : blob_at s b ≡ some t c) where
         pub no_self : blob_at s c ≡ none → question_of s ≡ none
@@ -68,24 +68,24 @@ module _ (s : List ℕ) where
         no_self e = rw (kind, mask, token, e)
 
         module _ (w : List ℕ) (d : ℕ) (self : blob_at s c ≡ some w d) where
-          pub no-descriptor : blob_at s d ≡ none → question_of s ≡ none
+          pub no_descriptor : blob_at s d ≡ none → question_of s ≡ none
           unfolding question_of
-          no-descriptor e = rw (kind, mask, token, self, e)
+          no_descriptor e = rw (kind, mask, token, self, e)
 
           module _ (x : List ℕ) (f : ℕ) (descriptor : blob_at s d ≡ some x f) where
-            pub no-policy : blob_at s f ≡ none → question_of s ≡ none
+            pub no_policy : blob_at s f ≡ none → question_of s ≡ none
             unfolding question_of
-            no-policy e = rw (kind, mask, token, self, descriptor, e)
+            no_policy e = rw (kind, mask, token, self, descriptor, e)
 
             module _ (y : List ℕ) (g : ℕ) (policy : blob_at s f ≡ some y g) where
-              pub more-follows : (g ≡ length s → ⊥) → question_of s ≡ none
+              pub more_follows : (g ≡ length s → ⊥) → question_of s ≡ none
               unfolding question_of
-              more-follows n = rw (kind, mask, token, self, descriptor, policy, ne_eqb g (length s) n)
+              more_follows n = rw (kind, mask, token, self, descriptor, policy, ne_eqb g (length s) n)
 
-              pub whole-question : g ≡ length s →
+              pub whole_question : g ≡ length s →
                   question_of s ≡ some (record { kind = k; mask = m; token = t; self = w; descriptor = x; policy = y }) (length s)
               unfolding question_of
-              whole-question n = rw (kind, mask, token, self, descriptor, policy, eq-eqb g (length s) n, n)
+              whole_question n = rw (kind, mask, token, self, descriptor, policy, eq-eqb g (length s) n, n)
 
 -- ---- what `parse` promises on refusal, and the answer to a file
 
@@ -101,17 +101,17 @@ module _ (s : List ℕ) where
   file_long l = rw (lt-ltb 65536 (length s) l)
 
   module _ (l : length s ≤ 65536) where
-    pub file-misshapen : question_of s ≡ none → file_report s ≡ refusal 12
+    pub file_misshapen_lem : question_of s ≡ none → file_report s ≡ refusal 12
     unfolding file_report
-    file-misshapen e = rw (le-ltb 65536 (length s) l, e)
+    file_misshapen_lem e = rw (le-ltb 65536 (length s) l, e)
 
     pub file_answered : (q : Question) (end : ℕ) → question_of s ≡ some q end → file_report s ≡ report_of q
     unfolding file_report
     file_answered q end e = rw (le-ltb 65536 (length s) l, e)
 
-  pub file-told : (file_report s).answer ≡ file_answer s
+  pub file_told : (file_report s).answer ≡ file_answer s
   unfolding file_report file_answer report_of
-  file-told = go (ltb 65536 (length s)) (question_of s)
+  file_told = go (ltb 65536 (length s)) (question_of s)
     where
       go : (b : Bool) (r : Read Question) → (cond b (refusal 12) (reporting r)).answer ≡ cond b (refused 12) (answering r)
       go true r = refl

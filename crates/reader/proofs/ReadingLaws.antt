@@ -1,7 +1,7 @@
 -- Readings from a place to the end, and readers.
--- In order: a list up to a place has the entries that the list has there (front-stop, front-step, front-entry); a reading from a place
--- (read-end, read_more, read_left); what is held of a list (held-inside, held-short), and m steps of a reader that was opened on it give its
--- first m entries (read-any), a long enough reading all of them (read-all, read_plain); a reader is its list and its place (reader-same).
+-- In order: a list up to a place has the entries that the list has there (front_stop, front_step, front_entry); a reading from a place
+-- (read_end, read_more, read_left); what is held of a list (held_inside, held_short), and m steps of a reader that was opened on it give its
+-- first m entries (read_any), a long enough reading all of them (read_all_lem, read_plain); a reader is its list and its place (reader_same).
 -- Assumes nothing.
 use Prim.Native.Nat.{ℕ, zero, suc, ◌+◌, ◌-◌, ◌<◌, ◌≤◌}
 use mathlib.Core.Path.{◌≡◌, refl, sym, ap, ap₂, ◌∙◌}
@@ -19,14 +19,14 @@ use Rattle.lists.specs.Spare.{Agree, read_to}
 use Rattle.lists.specs.declared.acl.Ace.{Ace}
 use Rattle.conditions.specs.declared.scan.Scan.TheVariants.{Plain}
 use Rattle.base.proofs.PartLaws.{byte_of_part}
-use Rattle.lists.proofs.DescriptorSteps.{part-in-past, part-in-inside}
-use Rattle.lists.proofs.AclLaws.{entries-stop, entries-more, entries_short, plain_reads_all}
+use Rattle.lists.proofs.DescriptorSteps.{part_in_past, part_in_inside}
+use Rattle.lists.proofs.AclLaws.{entries_stop, entries_more, entries_short, plain_reads_all}
 use Rattle.lists.proofs.SpareLaws.{ace_bounds, ace_past, read_fits}
-use Rattle.lists.proofs.AlikeLaws.{ace-alike, entry-alike}
+use Rattle.lists.proofs.AlikeLaws.{ace_alike, entry_alike}
 use Rattle.reader.specs.declared.Entries.{Entries}
 use Rattle.reader.specs.declared.Step.TheVariants.{Entry as Shown, End}
 use Rattle.reader.specs.Reading.{end_from, held, step_at, read_all}
-use Rattle.reader.proofs.StepLaws.{step_none, step-some, end_none, end-stop, end_more, EndLies, end_lies}
+use Rattle.reader.proofs.StepLaws.{step_none, step_some, end_none, end_stop, end_more, EndLies, end_lies}
 
 -- ---- a list up to a place, and what stands there
 
@@ -50,11 +50,11 @@ module _ (l : List ℕ) (e at : ℕ) where
     -- an entry that ends there, or before, stands in it as it does in the list
     front_step : step_at (part l 0 e) at ≡ Shown (ace_at l at)
     front_step =
-        let a : ace_at (part l 0 e) at ≡ ace_at l at = ace-alike l (part l 0 e) at h front_agrees front_room in
-        step-some (part l 0 e) at (λ z. h (ap (λ (x : Ace). x.next) (sym a) ∙ z)) ∙ ap Shown a
+        let a : ace_at (part l 0 e) at ≡ ace_at l at = ace_alike l (part l 0 e) at h front_agrees front_room in
+        step_some (part l 0 e) at (λ z. h (ap (λ (x : Ace). x.next) (sym a) ∙ z)) ∙ ap Shown a
 
     front_entry : entry_of (part l 0 e) (ace_at l at) ≡ entry_of l (ace_at l at)
-    front_entry = entry-alike l (part l 0 e) at h front_agrees front_room
+    front_entry = entry_alike l (part l 0 e) at h front_agrees front_room
 
 -- ---- reading from a place
 
@@ -86,8 +86,8 @@ read_left l e (suc n) (suc m) at q = go (eqb (ace_at l at).next 0) refl (read_le
         read_all (part l 0 e) (suc m) at ≡ take (suc m) (entries_at l (suc n) at)
     go true t r =
         let x : (ace_at l at).next ≡ 0 = eqb-true _ _ t in
-        let s : end_from l (suc n) at ≡ at = end-stop l n at x in
-        read_end (part l 0 e) (suc m) at (front_stop l e at (omega arith)) ∙ sym (ap (take (suc m)) (entries-stop l n at x))
+        let s : end_from l (suc n) at ≡ at = end_stop l n at x in
+        read_end (part l 0 e) (suc m) at (front_stop l e at (omega arith)) ∙ sym (ap (take (suc m)) (entries_stop l n at x))
     go false t r =
         let x : ((ace_at l at).next ≡ 0 → ⊥) = eqb-false _ _ t in
         let s : end_from l (suc n) at ≡ end_from l n (ace_at l at).next = end_more l n at x in
@@ -96,20 +96,20 @@ read_left l e (suc n) (suc m) at q = go (eqb (ace_at l at).next 0) refl (read_le
         let i : e ≤ length l = omega (arith, d.inside (ace_bounds l at x).inside) in
         read_more (part l 0 e) m at (ace_at l at) (front_step l e at x k i)
         ∙ ap₂ (λ (y : Entry) (z : List Entry). y ∷ z) (front_entry l e at x k i) (r (q ∙ s))
-        ∙ sym (ap (take (suc m)) (entries-more l n at x))
+        ∙ sym (ap (take (suc m)) (entries_more l n at x))
 
 -- ---- reading an opened list
 
 -- what is held, by whether the list has room for its heading
 held_inside : (l : List ℕ) → 8 ≤ length l → held l ≡ part l 0 (end_from l (u16_at l 4) 8)
 unfolding held
-held_inside l h = part-in-inside l 0 _ (omega arith) ((end_lies l (u16_at l 4) 8).inside h)
+held_inside l h = part_in_inside l 0 _ (omega arith) ((end_lies l (u16_at l 4) 8).inside h)
 
 held_short : (l : List ℕ) → length l < 8 → held l ≡ []
 unfolding held
 held_short l h =
     let d : EndLies l (u16_at l 4) 8 = end_lies l (u16_at l 4) 8 in
-    part-in-past l 0 _ (omega arith) (omega (arith, d.past))
+    part_in_past l 0 _ (omega arith) (omega (arith, d.past))
 
 short_entries : (l : List ℕ) → length l < 8 → entries_of l ≡ []
 unfolding entries_of entries_at
@@ -117,7 +117,7 @@ short_entries l h = go (u16_at l 4)
   where
     go : (n : ℕ) → entries_at l n 8 ≡ []
     go zero = refl
-    go (suc n) = entries-stop l n 8 (ace_past l 8 (omega arith))
+    go (suc n) = entries_stop l n 8 (ace_past l 8 (omega arith))
 
 -- m steps of a reader give the first m entries of the list that it was opened on, in stored order, for every m
 pub read_any : (l : List ℕ) (m : ℕ) → read_all (held l) m 8 ≡ take m (entries_of l)

@@ -1,7 +1,7 @@
 -- What stands at a place of a held list, and where a list ends. For `step_at`, `end` and `held`.
--- In order: a step at a place (step-none, step-some), what holds of one that shows an entry (Stands, step-stands), and how far it goes
--- (step-moves, step_fits, step_stays, step-inside); the place after the last entry (end_none, end-stop, end_more, end-left, EndLies,
--- end-lies), and what is held (held-is).
+-- In order: a step at a place (step_none, step_some), what holds of one that shows an entry (Stands, step_stands), and how far it goes
+-- (step_moves, step_fits, step_stays, step_inside); the place after the last entry (end_none, end_stop, end_more, end_left, EndLies,
+-- end_lies), and what is held (held_is).
 -- Not here: readings from a place to the end, ReadingLaws. Assumes nothing.
 use Prim.Native.Nat.{ℕ, zero, suc, ◌+◌, ◌-◌, ◌<◌, ◌≤◌}
 use mathlib.Core.Path.{◌≡◌, refl, ap, ◌∙◌}
@@ -31,36 +31,36 @@ module _ (l : List ℕ) (at : ℕ) where
   unfolding step_at
   step_none e = rw (eq-eqb (ace_at l at).next 0 e)
 
-  pub step-some : ((ace_at l at).next ≡ 0 → ⊥) → step_at l at ≡ Shown (ace_at l at)
+  pub step_some : ((ace_at l at).next ≡ 0 → ⊥) → step_at l at ≡ Shown (ace_at l at)
   unfolding step_at
-  step-some e = rw (ne_eqb (ace_at l at).next 0 e)
+  step_some e = rw (ne_eqb (ace_at l at).next 0 e)
 
-  pub step-stands : (a : Ace) → step_at l at ≡ Shown a → Stands l at a
+  pub step_stands : (a : Ace) → step_at l at ≡ Shown a → Stands l at a
   unfolding step_at
-  step-stands a q = go (eqb (ace_at l at).next 0) refl q
+  step_stands a q = go (eqb (ace_at l at).next 0) refl q
     where
       go : (t : Bool) → eqb (ace_at l at).next 0 ≡ t → cond t End (Shown (ace_at l at)) ≡ Shown a → Stands l at a
       go true e q = let z : ◌≡◌ {A = ℕ} 0 1 = cc in absurd (omega arith)
       go false e q = let s : a ≡ ace_at l at = cc in record { same = s; some = eqb-false _ _ e }
 
   -- "size u16": a step goes to the place after the entry, by exactly the size that the entry's heading says
-  pub step-moves : (a : Ace) → step_at l at ≡ Shown a → (next_place l at ≡ (ace_at l at).next) × (next_place l at ≡ at + u16_at l (at + 2))
-  step-moves a q =
-      let s : Stands l at a = step-stands a q in
+  pub step_moves : (a : Ace) → step_at l at ≡ Shown a → (next_place l at ≡ (ace_at l at).next) × (next_place l at ≡ at + u16_at l (at + 2))
+  step_moves a q =
+      let s : Stands l at a = step_stands a q in
       let e : next_place l at ≡ (ace_at l at).next = ap (place_after at) q ∙ ap (λ (x : Ace). x.next) s.same in
       (e, e ∙ ace_next l at s.some)
 
   -- "8 plus the SID's length or more": the SID ends inside its own entry
   pub step_fits : (a : Ace) → step_at l at ≡ Shown a → a.to ≤ a.next
-  step_fits a q = let s : Stands l at a = step-stands a q in rw s.same (ace_bounds l at s.some).fits
+  step_fits a q = let s : Stands l at a = step_stands a q in rw s.same (ace_bounds l at s.some).fits
 
   pub step_stays : step_at l at ≡ End → next_place l at ≡ at
   step_stays q = ap (place_after at) q
 
   -- a step goes on, and stays in the list
-  pub step-inside : (a : Ace) → step_at l at ≡ Shown a → (at < a.next) × (a.next ≤ length l)
-  step-inside a q =
-      let s : Stands l at a = step-stands a q in
+  pub step_inside : (a : Ace) → step_at l at ≡ Shown a → (at < a.next) × (a.next ≤ length l)
+  step_inside a q =
+      let s : Stands l at a = step_stands a q in
       rw s.same ((ace_bounds l at s.some).past, (ace_bounds l at s.some).inside)
 
 -- ---- the place after the last entry
@@ -70,9 +70,9 @@ module _ (l : List ℕ) (n p : ℕ) where
   unfolding end_from
   end_none e = rw e
 
-  pub end-stop : (ace_at l p).next ≡ 0 → end_from l (suc n) p ≡ p
+  pub end_stop : (ace_at l p).next ≡ 0 → end_from l (suc n) p ≡ p
   unfolding end_from
-  end-stop e = rw (eq-eqb (ace_at l p).next 0 e)
+  end_stop e = rw (eq-eqb (ace_at l p).next 0 e)
 
   pub end_more : ((ace_at l p).next ≡ 0 → ⊥) → end_from l (suc n) p ≡ end_from l n (ace_at l p).next
   unfolding end_from
@@ -95,7 +95,7 @@ end_lies l (suc n) p = go (eqb (ace_at l p).next 0) refl (end_lies l n (ace_at l
   where
     go : (t : Bool) → eqb (ace_at l p).next 0 ≡ t → EndLies l n (ace_at l p).next → EndLies l (suc n) p
     go true e r =
-        let s : end_from l (suc n) p ≡ p = end-stop l n p (eqb-true _ _ e) in
+        let s : end_from l (suc n) p ≡ p = end_stop l n p (eqb-true _ _ e) in
         record { past = omega arith; inside = λ h. omega arith }
     go false e r =
         let x : ((ace_at l p).next ≡ 0 → ⊥) = eqb-false _ _ e in

@@ -1,7 +1,7 @@
 -- Laws of what unpacking says of the token rules.
--- In order: a claim that is not made (unclaimed), the place after what was written (done-from,
--- word-inside), an identity (count-plain, told-plain), groups (groups_none, groups-more), a token without flags (unflagged,
--- people-keeping). Not here: the whole record, RecordAnswer. Assumes nothing.
+-- In order: a claim that is not made (unclaimed), the place after what was written (done_from,
+-- word_inside), an identity (count_plain, told_plain), groups (groups_none, groups_more), a token without flags (unflagged,
+-- people_keeping). Not here: the whole record, RecordAnswer. Assumes nothing.
 use Prim.Native.Nat.{ℕ, zero, suc, ◌+◌, ◌-◌, ◌<◌, ◌≤◌}
 use mathlib.Core.Path.{◌≡◌, refl, ap, ◌∙◌}
 use mathlib.Core.List.{List, [], ◌∷◌, ◌++◌, append_assoc}

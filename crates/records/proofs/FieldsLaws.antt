@@ -1,6 +1,6 @@
 -- The fields of a token, once for both formats: where a reader's five parts belong to a writer's (Format), a token that is Shaped is read
 -- back from what is written of it (fields-back), and what is read is Shaped and stands there as it is written (fields-form).
--- In order: a group, the confinement, the people, the fields; then how long the fields are (fields-short).
+-- In order: a group, the confinement, the people, the fields; then how long the fields are (fields_short).
 -- Assumes nothing.
 use Prim.Native.Nat.{ℕ, ◌+◌, ◌^◌, ◌<◌, ◌≤◌}
 use mathlib.Core.Path.{◌≡◌, refl, sym, ap, ap₂}
@@ -20,7 +20,7 @@ use Rattle.records.specs.Token.{Token, confined, unconfined}
 use Rattle.records.specs.Shaped.{Identity, ShapedGroup, ShapedConfined, Confinement, Shaped}
 use Rattle.records.specs.Fields.{Reader, Writer, each, group_at, confinement_at, people_at, fields_at, group_bytes, confinement_bytes}
 use Rattle.records.specs.Fields.{people_bytes, fields_bytes}
-use Rattle.records.proofs.FormatLaws.{Kept, many-back, many-form}
+use Rattle.records.proofs.FormatLaws.{Kept, many_back, many_form}
 
 -- a reader and a writer whose five parts belong together
 pub record Format (f : Reader) (w : Writer) : Type 0 where
@@ -33,9 +33,9 @@ pub record Format (f : Reader) (w : Writer) : Type 0 where
 module _ {f : Reader} {w : Writer} (k : Format f w) where
   -- ---- a group
 
-  pub group-kept : Kept (group_at f) (group_bytes w) ShapedGroup
+  pub group_kept : Kept (group_at f) (group_bytes w) ShapedGroup
   unfolding group_at
-  group-kept =
+  group_kept =
       record {
         back = λ g o {s} {at} x.
             let a = w.identity g.sid in
@@ -56,14 +56,14 @@ module _ {f : Reader} {w : Writer} (k : Format f w) where
 
   -- ---- the confinement
 
-  pub confinement-kept : (t : Bool) → Kept (confinement_at f t) (confinement_bytes w t) (Confinement t)
+  pub confinement_kept : (t : Bool) → Kept (confinement_at f t) (confinement_bytes w t) (Confinement t)
   unfolding confinement_at confinement_bytes
-  confinement-kept false =
+  confinement_kept false =
       record {
         back = λ c o {s} {at} x. ap₂ some (sym o) (sym (add-zero at));
         form = λ {s} {at} b i e. moved (λ c n. Formed s at n [] × (c ≡ unconfined)) e (formed_none s at i, refl);
       }
-  confinement-kept true =
+  confinement_kept true =
       record {
         back = λ c o {s} {at} x.
             let a = w.identity c.identity in
@@ -75,7 +75,7 @@ module _ {f : Reader} {w : Writer} (k : Format f w) where
               k.identity.back c.identity o.identity (stands_left a (b ++ d) x),
               k.count.back (length c.capabilities) (omega (arith, l)) (stands_left b d y),
               le-leb (length c.capabilities) 64 l,
-              many-back k.identity c.capabilities o.capabilities (stands_right b d y),
+              many_back k.identity c.capabilities o.capabilities (stands_right b d y),
             )
             (ap (some c) (length_three at a b d));
         form = λ {s} {at} b i e.
@@ -85,7 +85,7 @@ module _ {f : Reader} {w : Writer} (k : Format f w) where
             let z = bound _ _ _ _ l.1 in
             let g = k.identity.form b i x.first in
             let h = k.count.form b g.0.inside y.first in
-            let j = many-form k.identity y.a b h.0.inside z.first in
+            let j = many_form k.identity y.a b h.0.inside z.first in
             let o = formed_same (ap w.count (sym j.1)) h.0 in
             moved (λ c n. Formed s at n (confinement_bytes w true c) × ShapedConfined c) z.then (
               formed_append g.0 (formed_append o j.0),
@@ -95,10 +95,10 @@ module _ {f : Reader} {w : Writer} (k : Format f w) where
 
   -- ---- the people, with the flags and privileges that were read before them
 
-  pub people-back : (t : Token) → Shaped t → {s : List ℕ} {at : ℕ} {q : List ℕ} → Stands s at (people_bytes w t) q →
+  pub people_back : (t : Token) → Shaped t → {s : List ℕ} {at : ℕ} {q : List ℕ} → Stands s at (people_bytes w t) q →
       people_at f t.flags t.privileges s at ≡ some t (at + length (people_bytes w t))
   unfolding people_at people_bytes
-  people-back t o {s} {at} x =
+  people_back t o {s} {at} x =
       let a = w.identity t.user in
       let b = w.count (length t.groups) in
       let c = each (group_bytes w) t.groups in
@@ -110,16 +110,16 @@ module _ {f : Reader} {w : Writer} (k : Format f w) where
         k.identity.back t.user o.user (stands_left a (b ++ (c ++ d)) x),
         k.count.back (length t.groups) (omega (arith, l)) (stands_left b (c ++ d) y),
         le-leb (length t.groups) 256 l,
-        many-back group-kept t.groups o.groups (stands_left c d z),
-        (confinement-kept (confined t.flags)).back t.confinement o.confinement (stands_right c d z),
+        many_back group_kept t.groups o.groups (stands_left c d z),
+        (confinement_kept (confined t.flags)).back t.confinement o.confinement (stands_right c d z),
       )
       (ap (some t) (length_four at a b c d))
 
-  pub people-form : (flags privileges : ℕ) {s : List ℕ} {at n : ℕ} {t : Token} → flags ≤ 3 → privileges < 2 ^ 64 → T (are_bytes s) →
+  pub people_form : (flags privileges : ℕ) {s : List ℕ} {at n : ℕ} {t : Token} → flags ≤ 3 → privileges < 2 ^ 64 → T (are_bytes s) →
       at ≤ length s → people_at f flags privileges s at ≡ some t n →
       Formed s at n (people_bytes w t) × Shaped t × (t.flags ≡ flags) × (t.privileges ≡ privileges)
   unfolding people_at people_bytes
-  people-form flags privileges {s} {at} p q b i e =
+  people_form flags privileges {s} {at} p q b i e =
       let x = bound _ _ _ _ e in
       let y = bound _ _ _ _ x.then in
       let l = allowed (leb y.a 256) _ _ _ y.then in
@@ -127,8 +127,8 @@ module _ {f : Reader} {w : Writer} (k : Format f w) where
       let v = bound _ _ _ _ z.then in
       let g = k.identity.form b i x.first in
       let h = k.count.form b g.0.inside y.first in
-      let j = many-form group-kept y.a b h.0.inside z.first in
-      let m = (confinement-kept (confined flags)).form b j.0.inside v.first in
+      let j = many_form group_kept y.a b h.0.inside z.first in
+      let m = (confinement_kept (confined flags)).form b j.0.inside v.first in
       let o = formed_same (ap w.count (sym j.1)) h.0 in
       moved
       (λ t n. Formed s at n (people_bytes w t) × Shaped t × (t.flags ≡ flags) × (t.privileges ≡ privileges))
@@ -148,9 +148,9 @@ module _ {f : Reader} {w : Writer} (k : Format f w) where
 
   -- ---- the fields
 
-  pub fields-kept : Kept (fields_at f) (fields_bytes w) Shaped
+  pub fields_kept : Kept (fields_at f) (fields_bytes w) Shaped
   unfolding fields_at fields_bytes
-  fields-kept =
+  fields_kept =
       record {
         back = λ t o {s} {at} x.
             let a = w.flags t.flags in
@@ -162,7 +162,7 @@ module _ {f : Reader} {w : Writer} (k : Format f w) where
               k.flags.back t.flags (omega (arith, l)) (stands_left a (b ++ c) x),
               le-leb t.flags 3 l,
               k.privileges.back t.privileges o.privileges (stands_left b c y),
-              people-back t o (stands_right b c y),
+              people_back t o (stands_right b c y),
             )
             (ap (some t) (length_three at a b c));
         form = λ {s} {at} {n} {a = t} b i e.
@@ -171,7 +171,7 @@ module _ {f : Reader} {w : Writer} (k : Format f w) where
             let y = bound _ _ _ _ l.1 in
             let g = k.flags.form b i x.first in
             let h = k.privileges.form b g.0.inside y.first in
-            let j = people-form x.a y.a (leb-true _ _ l.0) h.1 b h.0.inside y.then in
+            let j = people_form x.a y.a (leb-true _ _ l.0) h.1 b h.0.inside y.then in
             let u = formed_same (ap w.flags (sym j.2)) g.0 in
             let v = formed_same (ap w.privileges (sym j.3)) h.0 in
             (formed_append u (formed_append v j.0), j.1);

@@ -1,6 +1,6 @@
 -- Reading and writing, once for both formats. `Kept f w Ok` says that the reader f and the writer w belong together: what w writes of a
 -- thing that is Ok is read back by f, wherever it stands, and what f reads is Ok and stands there as w writes it.
--- After it, many of one kind (many-back, many-form). The fields of a token are in FieldsLaws. Assumes nothing.
+-- After it, many of one kind (many_back, many_form). The fields of a token are in FieldsLaws. Assumes nothing.
 use Prim.Native.Nat.{ℕ, zero, suc, ◌+◌, ◌≤◌}
 use mathlib.Core.Path.{◌≡◌, refl, sym, ap}
 use mathlib.Core.List.{List, [], ◌∷◌, ◌++◌}
@@ -25,23 +25,23 @@ pub record Kept {A : Type 0} (f : List ℕ → ℕ → Read A) (w : A → List �
 -- ---- many of one kind
 
 module _ {A : Type 0} {f : List ℕ → ℕ → Read A} {w : A → List ℕ} {Ok : A → Type 0} (k : Kept f w Ok) where
-  pub many-back : (l : List A) → All Ok l → {s : List ℕ} {at : ℕ} {q : List ℕ} → Stands s at (each w l) q →
+  pub many_back : (l : List A) → All Ok l → {s : List ℕ} {at : ℕ} {q : List ℕ} → Stands s at (each w l) q →
       many f (length l) s at ≡ some l (at + length (each w l))
   unfolding many each
-  many-back [] o {s} {at} x = ap (some []) (sym (add-zero at))
-  many-back (a ∷ l) o {s} {at} x =
+  many_back [] o {s} {at} x = ap (some []) (sym (add-zero at))
+  many_back (a ∷ l) o {s} {at} x =
       let n : at + length (w a) + length (each w l) ≡ at + length (w a ++ each w l) = rw (length-append (w a) (each w l)) (omega arith) in
-      rw (k.back a o.0 (stands_left (w a) (each w l) x), many-back l o.1 (stands_right (w a) (each w l) x)) (ap (some (a ∷ l)) n)
+      rw (k.back a o.0 (stands_left (w a) (each w l) x), many_back l o.1 (stands_right (w a) (each w l) x)) (ap (some (a ∷ l)) n)
 
-  pub many-form : (c : ℕ) {s : List ℕ} {at n : ℕ} {l : List A} → T (are_bytes s) → at ≤ length s → many f c s at ≡ some l n →
+  pub many_form : (c : ℕ) {s : List ℕ} {at n : ℕ} {l : List A} → T (are_bytes s) → at ≤ length s → many f c s at ≡ some l n →
       Formed s at n (each w l) × (length l ≡ c) × All Ok l
   unfolding many each
-  many-form zero {s} {at} b i e =
+  many_form zero {s} {at} b i e =
       moved (λ l n. Formed s at n (each w l) × (length l ≡ zero) × All Ok l) e (formed_none s at i, refl, tt)
-  many-form (suc c) {s} {at} {n} {l} b i e =
+  many_form (suc c) {s} {at} {n} {l} b i e =
       let x = bound _ _ _ _ e in
       let y = bound _ _ _ _ x.then in
       let g = k.form b i x.first in
-      let h = many-form c b g.0.inside y.first in
+      let h = many_form c b g.0.inside y.first in
       moved (λ l n. Formed s at n (each w l) × (length l ≡ suc c) × All Ok l) y.then
       (formed_append g.0 h.0, ap suc h.1, (g.1, h.2))

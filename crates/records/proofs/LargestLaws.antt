@@ -1,5 +1,5 @@
--- The bounds of LimitLaws are reached: a token of the largest shape (largest-listing, largest-record), and one that is accepted
--- (longest-kept, longest-accepted-listing, longest-accepted-record).
+-- The bounds of LimitLaws are reached: a token of the largest shape (largest_listing, largest_record), and one that is accepted
+-- (longest_kept, longest_accepted_listing, longest_accepted_record).
 -- Assumes nothing.
 use Prim.Native.Nat.{ℕ, zero, suc, ◌+◌, ◌-◌, ◌*◌, ◌^◌}
 use mathlib.Core.Path.{◌≡◌, refl, ap, ◌∙◌}

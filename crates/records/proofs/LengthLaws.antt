@@ -1,6 +1,6 @@
 -- How long the fields of a token are at most, once for both formats: by shape, and where the token keeps the token rules.
--- In order: a sequence (each-short), one that lists a given identity (listed-short), the capabilities, the fields (fields-short,
--- accepted-short). Assumes nothing.
+-- In order: a sequence (each_short), one that lists a given identity (listed_short), the capabilities, the fields (fields_short,
+-- accepted_short). Assumes nothing.
 use Prim.Native.Nat.{ℕ, zero, suc, ◌+◌, ◌*◌, ◌^◌, ◌<◌, ◌≤◌}
 use mathlib.Core.Path.{◌≡◌, refl, ap, ◌∙◌}
 use mathlib.Core.List.{List, [], ◌∷◌, ◌++◌}
@@ -23,26 +23,26 @@ more_short n b x y h k =
     omega arith
 
 module _ {A : Type 0} {Ok : A → Type 0} (w : A → List ℕ) (b : ℕ) (short : (a : A) → Ok a → length (w a) ≤ b) where
-  pub each-short : (l : List A) → All Ok l → length (each w l) ≤ length l * b
+  pub each_short : (l : List A) → All Ok l → length (each w l) ≤ length l * b
   unfolding each
-  each-short [] o = omega arith
-  each-short (a ∷ l) o =
+  each_short [] o = omega arith
+  each_short (a ∷ l) o =
       rw (length-append (w a) (each w l))
-      (more_short (length l) b (length (w a)) (length (each w l)) (short a o.0) (each-short l o.1))
+      (more_short (length l) b (length (w a)) (length (each w l)) (short a o.0) (each_short l o.1))
 
 -- one of the identities is x, and the others are of length at most b
 module _ (w : List ℕ → List ℕ) (b : ℕ) (short : (a : List ℕ) → Identity a → length (w a) ≤ b) (x : List ℕ) where
-  pub listed-short : (n : ℕ) (l : List (List ℕ)) → length l ≤ suc n → All Identity l → lists x l ≡ true →
+  pub listed_short : (n : ℕ) (l : List (List ℕ)) → length l ≤ suc n → All Identity l → lists x l ≡ true →
       length (each w l) ≤ n * b + length (w x)
   unfolding each lists
-  listed-short n [] h o e = let z : ◌≡◌ {A = ℕ} 0 1 = cc in absurd (omega arith)
-  listed-short n (a ∷ l) h o e = rw (length-append (w a) (each w l)) (go (same a x) refl n h (λ n' h' e'. listed-short n' l h' o.1 e') e)
+  listed_short n [] h o e = let z : ◌≡◌ {A = ℕ} 0 1 = cc in absurd (omega arith)
+  listed_short n (a ∷ l) h o e = rw (length-append (w a) (each w l)) (go (same a x) refl n h (λ n' h' e'. listed_short n' l h' o.1 e') e)
     where
       go : (t : Bool) → same a x ≡ t → (n : ℕ) → suc (length l) ≤ suc n →
           ((n' : ℕ) → length l ≤ suc n' → lists x l ≡ true → length (each w l) ≤ n' * b + length (w x)) →
           cond t true (lists x l) ≡ true → length (w a) + length (each w l) ≤ n * b + length (w x)
       go true u n h ih q =
-          let f = each-short w b short l o.1 in
+          let f = each_short w b short l o.1 in
           let g = mul-le-mul_right {m = length l} {n = n} b (omega arith) in
           let r : length (w a) ≡ length (w x) = ap (λ (v : List ℕ). length (w v)) (same_eq a x u) in
           omega (arith, f, g)
@@ -99,7 +99,7 @@ module _ {w : Writer} {m : Widths} (k : Longest w m) where
   groups_short : (l : List Group) → length l ≤ 256 → All ShapedGroup l →
       length (each (group_bytes w) l) ≤ 256 * (m.identity + m.attributes)
   groups_short l h o =
-      let a = each-short (group_bytes w) (m.identity + m.attributes) group_short l o in
+      let a = each_short (group_bytes w) (m.identity + m.attributes) group_short l o in
       let b = mul-le-mul_right (m.identity + m.attributes) h in
       omega (arith, a, b)
 
@@ -133,12 +133,12 @@ module _ {w : Writer} {m : Widths} (k : Longest w m) where
   unfolding each
   capabilities_short false x o = rw o (omega arith)
   capabilities_short true x o =
-      let a = each-short w.identity m.identity k.identity x.capabilities o.capabilities in
+      let a = each_short w.identity m.identity k.identity x.capabilities o.capabilities in
       let b = mul-le-mul_right m.identity o.few in
       omega (arith, a, b)
 
-  pub fields-short : (t : Token) → Shaped t → length (fields_bytes w t) ≤ longest m (64 * m.identity)
-  fields-short t o = fields_bound (64 * m.identity) t o (capabilities_short (confined t.flags) t.confinement o.confinement)
+  pub fields_short : (t : Token) → Shaped t → length (fields_bytes w t) ≤ longest m (64 * m.identity)
+  fields_short t o = fields_bound (64 * m.identity) t o (capabilities_short (confined t.flags) t.confinement o.confinement)
 
   -- where a confined token lists S-1-15-2-2
   listed_capabilities : (t : Bool) (x : Confined) → Confinement t x → t && not (lists all_restricted x.capabilities) ≡ false →
@@ -146,10 +146,10 @@ module _ {w : Writer} {m : Widths} (k : Longest w m) where
   unfolding each
   listed_capabilities false x o e = rw o (omega arith)
   listed_capabilities true x o e =
-      listed-short w.identity m.identity k.identity all_restricted 63 x.capabilities o.few o.capabilities (not-false _ e)
+      listed_short w.identity m.identity k.identity all_restricted 63 x.capabilities o.few o.capabilities (not-false _ e)
 
-  pub accepted-short : (t : Token) → Shaped t → keeps t ≡ true →
+  pub accepted_short : (t : Token) → Shaped t → keeps t ≡ true →
       length (fields_bytes w t) ≤ longest m (63 * m.identity + length (w.identity all_restricted))
-  accepted-short t o e =
+  accepted_short t o e =
       fields_bound (63 * m.identity + length (w.identity all_restricted)) t o
       (listed_capabilities (confined t.flags) t.confinement o.confinement (restricted t e))

@@ -1,5 +1,5 @@
--- How long a listing and a record are at most, by shape (listing-short, record-short) and where they are accepted (accepted-listing-short,
--- accepted-record-short, as-listing-short, as-record-short). That each bound is reached is in LargestLaws.
+-- How long a listing and a record are at most, by shape (listing_short, record_short) and where they are accepted (accepted_listing_short,
+-- accepted_record_short, as_listing_short, as_record_short). That each bound is reached is in LargestLaws.
 -- Assumes nothing.
 use Prim.Native.Nat.{ℕ, ◌*◌, ◌≤◌}
 use mathlib.Core.Path.{◌≡◌, refl}
@@ -12,7 +12,7 @@ use lib.ListN.{length, length-append}
 use Rattle.base.specs.Bytes.{byte_at, u32_at, u48_be_at}
 use Rattle.base.specs.Sevens.{packed, sevens}
 use Rattle.base.proofs.ValueLaws.{length_little}
-use Rattle.base.proofs.WordsLaws.{u48-be-at-lt}
+use Rattle.base.proofs.WordsLaws.{u48_be_at_lt}
 use Rattle.base.proofs.SevensLaws.{packed_length}
 use Rattle.sids.proofs.SidLaws.{sid_shape, is_sid_short}
 use Rattle.records.specs.Token.{Token}
@@ -22,7 +22,7 @@ use Rattle.records.specs.TokenRecord.{read_record, record_of, pack_identity, pac
 use Rattle.records.specs.TokenRules.{all_restricted, keeps}
 use Rattle.records.specs.Converters.{as_listing, as_record, full_result}
 use Rattle.records.proofs.RoundTrip.{record_form, listing_form, accepted}
-use Rattle.records.proofs.LengthLaws.{Widths, Longest, each-short, fields-short, accepted-short}
+use Rattle.records.proofs.LengthLaws.{Widths, Longest, each_short, fields_short, accepted_short}
 use Rattle.records.proofs.RecordLaws.{words_at, words_packed, words_fit, length_words}
 
 -- ---- the listing
@@ -46,17 +46,17 @@ flat_longest =
 
 pub listing_short : (t : Token) → Shaped t → length (listing_of t) ≤ 22940
 unfolding listing_of
-listing_short t o = fields-short flat_longest t o
+listing_short t o = fields_short flat_longest t o
 
 pub accepted_listing_short : (t : Token) → Shaped t → keeps t ≡ true → length (listing_of t) ≤ 22888
 unfolding listing_of
-accepted_listing_short t o e = accepted-short flat_longest t o e
+accepted_listing_short t o e = accepted_short flat_longest t o e
 
 -- ---- the record
 
 pub words_short : (n : ℕ) (w : List ℕ) (at : ℕ) → Identity w → length (packed_words n w at) ≤ n * 5
 words_short n w at o =
-    let a = each-short packed 5 (λ v h. packed_length 4 v (omega arith) (omega arith)) (words_at n w at) (words_fit n w at o.bytes) in
+    let a = each_short packed 5 (λ v h. packed_length 4 v (omega arith) (omega arith)) (words_at n w at) (words_fit n w at o.bytes) in
     rw (words_packed n w at) (rw length_words at a)
 
 pub pack_identity_short : (w : List ℕ) → Identity w → length (pack_identity w) ≤ 83
@@ -65,7 +65,7 @@ pack_identity_short w o =
     let x = sid_shape w o.whole in
     let f = x.few in
     let a = packed_length 0 (byte_at w 1) (omega arith) (omega arith) in
-    let l = u48-be-at-lt w 2 o.bytes in
+    let l = u48_be_at_lt w 2 o.bytes in
     let b = packed_length 6 (u48_be_at w 2) (omega arith) (omega (arith, l)) in
     let c = words_short (byte_at w 1) w 8 o in
     simp length-append (omega (arith, a, b, c))
@@ -88,7 +88,7 @@ pub record_short : (t : Token) → Shaped t → length (record_of t) ≤ 28021
 unfolding record_of
 record_short t o =
     let a = packed_length 0 1 (omega arith) (omega arith) in
-    let b = fields-short packed_longest t o in
+    let b = fields_short packed_longest t o in
     simp length-append (omega (arith, a, b))
 
 -- S-1-15-2-2 packed is 02 0F 02 02
@@ -100,7 +100,7 @@ pub accepted_record_short : (t : Token) → Shaped t → keeps t ≡ true → le
 unfolding record_of
 accepted_record_short t o e =
     let a = packed_length 0 1 (omega arith) (omega arith) in
-    let b = accepted-short packed_longest t o e in
+    let b = accepted_short packed_longest t o e in
     simp length-append (omega (arith, a, b, length_restricted))
 
 -- ---- what a converter gives

@@ -1,4 +1,4 @@
--- The flat listing as a format: its numbers and its identities are read back and have one form (flat-format).
+-- The flat listing as a format: its numbers and its identities are read back and have one form (flat_format).
 -- Assumes nothing.
 use Prim.Native.Nat.{ℕ, ◌+◌, ◌*◌, ◌/◌, ◌%◌, ◌^◌, ◌<◌, ◌≤◌}
 use mathlib.Core.Path.{◌≡◌, refl, sym, ap, ap₂, ◌∙◌}
@@ -12,7 +12,7 @@ use Rattle.base.specs.Bytes.{u32_at, part, little}
 use Rattle.base.specs.Bytes.Read.{some}
 use Rattle.base.proofs.BytesLaws.{part_of_drop, bytes_part}
 use Rattle.base.proofs.ValueLaws.{length_little, little_eight}
-use Rattle.base.proofs.WordsLaws.{u32-at-lt, u32-at-back, little-of-u32-at}
+use Rattle.base.proofs.WordsLaws.{u32_at_lt, u32_at_back, little_of_u32_at}
 use Rattle.base.proofs.PlaceLaws.{Stands, stands_end, stands_left, stands_right, Formed, formed_append, formed_same}
 use Rattle.base.proofs.ReadLaws.{passed, moved}
 use Rattle.sids.specs.Sid.{sid_end}
@@ -27,7 +27,7 @@ use Rattle.records.proofs.IdentityLaws.{sid_end_stands}
 
 formed_word : (s : List ℕ) (at n : ℕ) → T (are_bytes s) → at + 4 ≡ n → n ≤ length s → Formed s at n (little 4 (u32_at s at))
 formed_word s at n b e i =
-    record { past = omega arith; inside = i; bytes = ap (part s at) (sym e) ∙ little-of-u32-at s at b (omega arith) }
+    record { past = omega arith; inside = i; bytes = ap (part s at) (sym e) ∙ little_of_u32_at s at b (omega arith) }
 
 pub word_kept : Kept word (little 4) (λ v. v < 2 ^ 32)
 unfolding word
@@ -36,11 +36,11 @@ word_kept =
       back = λ v o {s} {at} {q} x.
           let l = length_little 4 v in
           let i = stands_end x in
-          rw (le-ltb (length s) (at + 4) (omega arith), u32-at-back s q at v x.inside x.here o) (ap (some v) (omega arith));
+          rw (le-ltb (length s) (at + 4) (omega arith), u32_at_back s q at v x.inside x.here o) (ap (some v) (omega arith));
       form = λ {s} {at} b i e.
           let p = passed (ltb (length s) (at + 4)) _ _ _ e in
           moved (λ v n. Formed s at n (little 4 v) × (v < 2 ^ 32)) p.1
-          (formed_word s at (at + 4) b refl (ltb-false _ _ p.0), u32-at-lt s at b);
+          (formed_word s at (at + 4) b refl (ltb-false _ _ p.0), u32_at_lt s at b);
     }
 
 pub double_word_kept : Kept double_word (little 8) (λ v. v < 2 ^ 64)
@@ -59,15 +59,15 @@ double_word_kept =
           let g : Stands s (at + 4) b q = rw m at (stands_right a b y) in
           rw (
             le-ltb (length s) (at + 8) (omega arith),
-            u32-at-back s (b ++ q) at (v % 4294967296) f.inside f.here (omega arith),
-            u32-at-back s q (at + 4) (v / 4294967296) g.inside g.here (omega arith),
+            u32_at_back s (b ++ q) at (v % 4294967296) f.inside f.here (omega arith),
+            u32_at_back s q (at + 4) (v / 4294967296) g.inside g.here (omega arith),
           )
           (ap₂ some (omega arith) (omega arith));
       form = λ {s} {at} b i e.
           let p = passed (ltb (length s) (at + 8)) _ _ _ e in
           let j : at + 8 ≤ length s = ltb-false _ _ p.0 in
-          let l = u32-at-lt s at b in
-          let h = u32-at-lt s (at + 4) b in
+          let l = u32_at_lt s at b in
+          let h = u32_at_lt s (at + 4) b in
           moved (λ v n. Formed s at n (little 8 v) × (v < 2 ^ 64)) p.1 (
             formed_same (sym (little_eight (u32_at s at) (u32_at s (at + 4)) l))
                 (formed_append (formed_word s at (at + 4) b refl (omega arith)) (formed_word s (at + 4) (at + 8) b (omega arith) j)),

@@ -86,17 +86,17 @@ members_end_more attrs zero s at e h k = absurd (omega arith)
 members_end_more attrs (suc n) s at e h k = let m : suc n - 1 ≡ n = omega arith in rw (m, k)
 
 module _ (attrs : Bool) (n : ℕ) (s : List ℕ) (at : ℕ) (some : 0 < n) (x : MembersStand attrs n s at) where
-  pub stand-first : sid_end s at ≡ 0 → ⊥
+  pub stand_first : sid_end s at ≡ 0 → ⊥
   unfolding MembersStand
-  stand-first = go n some x
+  stand_first = go n some x
     where
       go : (n : ℕ) → 0 < n → MembersStand attrs n s at → sid_end s at ≡ 0 → ⊥
       go zero h y = absurd (omega arith)
       go (suc n) h y = y.0
 
-  pub stand-more : (e : ℕ) → e ≡ member_end attrs s at → MembersStand attrs (n - 1) s e
+  pub stand_more : (e : ℕ) → e ≡ member_end attrs s at → MembersStand attrs (n - 1) s e
   unfolding MembersStand
-  stand-more e k = go n some x
+  stand_more e k = go n some x
     where
       go : (n : ℕ) → 0 < n → MembersStand attrs n s at → MembersStand attrs (n - 1) s e
       go zero h y = absurd (omega arith)
@@ -105,13 +105,13 @@ module _ (attrs : Bool) (n : ℕ) (s : List ℕ) (at : ℕ) (some : 0 < n) (x : 
 -- ---- a crowd, by the place and the count that the code reads
 
 module _ (attrs : Bool) (s : List ℕ) (at e n : ℕ) (ends : e ≡ sid_end s at) (counts : n ≡ u32_at s e) where
-  pub crowd-is : crowd_bytes attrs s at ≡ pack_identity (part s at e) ++ (packed n ++ members_bytes attrs n s (e + 4))
+  pub crowd_is : crowd_bytes attrs s at ≡ pack_identity (part s at e) ++ (packed n ++ members_bytes attrs n s (e + 4))
   unfolding crowd_bytes
-  crowd-is = rw (counts, ends)
+  crowd_is = rw (counts, ends)
 
-  pub crowd-end-is : crowd_end attrs s at ≡ members_end attrs n s (e + 4)
+  pub crowd_end_is : crowd_end attrs s at ≡ members_end attrs n s (e + 4)
   unfolding crowd_end
-  crowd-end-is = rw (counts, ends)
+  crowd_end_is = rw (counts, ends)
 
-  pub crowd-members : CrowdStands attrs s at → MembersStand attrs n s (e + 4)
-  crowd-members x = rw (counts, ends) x.members
+  pub crowd_members : CrowdStands attrs s at → MembersStand attrs n s (e + 4)
+  crowd_members x = rw (counts, ends) x.members

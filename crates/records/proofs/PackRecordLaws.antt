@@ -41,8 +41,8 @@ module _ (s : List ℕ) (f p : ℕ) (flags : f ≡ u32_at s 0) (privileges : p �
   record_is = rw (flags, privileges)
 
   module _ (l0 : List ℕ) (room : length (record_bytes s) ≤ length l0) where
-    pub record-room-1 : 0 + length (packed 1) ≤ length l0
-    record-room-1 =
+    pub record_room_1 : 0 + length (packed 1) ≤ length l0
+    record_room_1 =
         let e = ap length record_is in
         room_first 0 (length l0) (packed 1) (packed f ++ (packed p ++ people)) (omega (arith, e, room))
 
@@ -50,34 +50,34 @@ module _ (s : List ℕ) (f p : ℕ) (flags : f ≡ u32_at s 0) (privileges : p �
       rest_1 : a + length (packed f ++ (packed p ++ people)) ≤ length l1
       rest_1 = room_after_lem (packed f ++ (packed p ++ people)) first (let e = ap length record_is in omega (arith, e, room))
 
-      pub record-room-2 : a + length (packed f) ≤ length l1
-      record-room-2 = room_first a (length l1) (packed f) (packed p ++ people) rest_1
+      pub record_room_2 : a + length (packed f) ≤ length l1
+      record_room_2 = room_first a (length l1) (packed f) (packed p ++ people) rest_1
 
       module _ {l2 : List ℕ} {b : ℕ} (second : Wrote l1 l2 a b (packed f)) where
         rest_2 : b + length (packed p ++ people) ≤ length l2
         rest_2 = room_after_lem (packed p ++ people) second rest_1
 
-        pub record-room-3 : b + length (packed p) ≤ length l2
-        record-room-3 = room_first b (length l2) (packed p) people rest_2
+        pub record_room_3 : b + length (packed p) ≤ length l2
+        record_room_3 = room_first b (length l2) (packed p) people rest_2
 
         module _ {l3 : List ℕ} {c : ℕ} (third : Wrote l2 l3 b c (packed p)) where
           rest_3 : c + length (crowd_bytes true s 12 ++ rest_bytes (confined f) s) ≤ length l3
           rest_3 = room_after_lem people third rest_2
 
-          pub record-room-4 : c + length (crowd_bytes true s 12) ≤ length l3
-          record-room-4 = room_first c (length l3) (crowd_bytes true s 12) (rest_bytes (confined f) s) rest_3
+          pub record_room_4 : c + length (crowd_bytes true s 12) ≤ length l3
+          record_room_4 = room_first c (length l3) (crowd_bytes true s 12) (rest_bytes (confined f) s) rest_3
 
           module _ {l4 : List ℕ} {d : ℕ} (fourth : Wrote l3 l4 c d (crowd_bytes true s 12)) where
-            pub record-room-5 : (e : ℕ) → e ≡ crowd_end true s 12 → confined f ≡ true → d + length (crowd_bytes false s e) ≤ length l4
-            record-room-5 e h t = rw (rest_crowd (confined f) s e t h) (room_after_lem (rest_bytes (confined f) s) fourth rest_3)
+            pub record_room_5 : (e : ℕ) → e ≡ crowd_end true s 12 → confined f ≡ true → d + length (crowd_bytes false s e) ≤ length l4
+            record_room_5 e h t = rw (rest_crowd (confined f) s e t h) (room_after_lem (rest_bytes (confined f) s) fourth rest_3)
 
             wrote_people : {l5 : List ℕ} {r : ℕ} → Wrote l4 l5 d r (rest_bytes (confined f) s) → Wrote l0 l5 0 r (record_bytes s)
             wrote_people x =
                 wrote_same (sym record_is) (wrote_append first (wrote_append second (wrote_append third (wrote_append fourth x))))
 
-            pub wrote-plain : confined f ≡ false → Wrote l0 l4 0 d (record_bytes s)
-            wrote-plain t = wrote_people (wrote_same (sym (rest_plain (confined f) s t)) (wrote_none l4 d))
+            pub wrote_plain : confined f ≡ false → Wrote l0 l4 0 d (record_bytes s)
+            wrote_plain t = wrote_people (wrote_same (sym (rest_plain (confined f) s t)) (wrote_none l4 d))
 
-            pub wrote-confined : (e : ℕ) {l5 : List ℕ} {r : ℕ} → e ≡ crowd_end true s 12 → confined f ≡ true →
+            pub wrote_confined : (e : ℕ) {l5 : List ℕ} {r : ℕ} → e ≡ crowd_end true s 12 → confined f ≡ true →
                 Wrote l4 l5 d r (crowd_bytes false s e) → Wrote l0 l5 0 r (record_bytes s)
-            wrote-confined e h t x = wrote_people (wrote_same (rest_crowd (confined f) s e t h) x)
+            wrote_confined e h t x = wrote_people (wrote_same (rest_crowd (confined f) s e t h) x)

@@ -1,5 +1,5 @@
--- What is packed of a listing, by place, is the record of its token (packed-listing), and the listing can be packed (packable-listing).
--- In order: members of one kind, a crowd, the parts of a listing, the whole and its length (packed-short, packed-twice). Assumes nothing.
+-- What is packed of a listing, by place, is the record of its token (packed_listing), and the listing can be packed (packable_listing).
+-- In order: members of one kind, a crowd, the parts of a listing, the whole and its length (packed_short, packed_twice). Assumes nothing.
 use Prim.Native.Nat.{ℕ, ◌+◌, ◌*◌, ◌^◌, ◌<◌, ◌≤◌}
 use mathlib.Core.Path.{◌≡◌, refl, sym, ap, ap₂, ◌∙◌}
 use mathlib.Core.List.{List, [], ◌∷◌, ◌++◌, append_assoc}
@@ -28,8 +28,8 @@ use Rattle.records.proofs.IdentityLaws.{sid_end_stands}
 use Rattle.records.proofs.ListingLaws.{double_word_kept}
 use Rattle.records.proofs.LimitLaws.{record_short}
 use Rattle.records.proofs.TwiceLaws.{record_twice}
-use Rattle.records.proofs.CrowdLaws.{word_stands, sid_part_stands, sid_end_pos, Shows, group_shows, plain_shows, flags-listed}
-use Rattle.records.proofs.CrowdLaws.{rest_stands, crowd-stand, confinement-stand}
+use Rattle.records.proofs.CrowdLaws.{word_stands, sid_part_stands, sid_end_pos, Shows, group_shows, plain_shows, flags_listed}
+use Rattle.records.proofs.CrowdLaws.{rest_stands, crowd_stand, confinement_stand}
 
 -- no identity ends at 0
 known : (e : ℕ) → eqb e 0 ≡ false → e ≡ 0 → ⊥
@@ -115,7 +115,7 @@ module _ (t : Token) (o : Shaped t) where
       × CrowdStands true (listing_of t) 12
   crowd_of_lem =
       let h = o.few in
-      crowd_packed group_shows group_packs t.user t.groups o.user (omega arith) o.groups (crowd-stand t)
+      crowd_packed group_shows group_packs t.user t.groups o.user (omega arith) o.groups (crowd_stand t)
 
   confined_of_lem : confined t.flags ≡ true →
       (crowd_bytes false (listing_of t) (crowd_end true (listing_of t) 12) ≡ confinement_bytes packed_writer true t.confinement)
@@ -123,7 +123,7 @@ module _ (t : Token) (o : Shaped t) where
   unfolding confinement_bytes
   confined_of_lem e =
       let x : Stands (listing_of t) (confined_place t) (confinement_bytes flat_writer true t.confinement) [] =
-      rw e at (confinement-stand t) in
+      rw e at (confinement_stand t) in
       let c : ShapedConfined t.confinement = rw e at o.confinement in
       let h = c.few in
       let r =
@@ -136,18 +136,18 @@ module _ (t : Token) (o : Shaped t) where
   rest_of true e = (confined_of_lem e).0
   rest_of false e = refl
 
-  pub packed-listing : record_bytes (listing_of t) ≡ record_of t
+  pub packed_listing : record_bytes (listing_of t) ≡ record_of t
   unfolding record_bytes record_of fields_bytes people_bytes
-  packed-listing =
-      rw (flags-listed t o, privileges_packed, crowd_of_lem.0, rest_of (confined t.flags) refl)
+  packed_listing =
+      rw (flags_listed t o, privileges_packed, crowd_of_lem.0, rest_of (confined t.flags) refl)
       (simp append_assoc)
 
   -- how long it gets
   pub packed_short : length (record_bytes (listing_of t)) ≤ 28021
-  packed_short = rw packed-listing (record_short t o)
+  packed_short = rw packed_listing (record_short t o)
 
   pub packed_twice : length (record_bytes (listing_of t)) ≤ 2 * length (listing_of t)
-  packed_twice = rw packed-listing (record_twice t o)
+  packed_twice = rw packed_listing (record_twice t o)
 
-  pub packable-listing : Packable (listing_of t)
-  packable-listing = record { crowd = crowd_of_lem.2; rest = λ e. (confined_of_lem (ap confined (sym (flags-listed t o)) ∙ e)).1 }
+  pub packable_listing : Packable (listing_of t)
+  packable_listing = record { crowd = crowd_of_lem.2; rest = λ e. (confined_of_lem (ap confined (sym (flags_listed t o)) ∙ e)).1 }

@@ -22,7 +22,7 @@ use Rattle.records.specs.Unpacking.{written, outcome, limited, people_copied, Un
 use Rattle.records.specs.Clean.{Such, Keeping, ReadKeeping}
 use Rattle.records.specs.Unpacking.Outcome.{refused, done}
 use Rattle.records.proofs.UnpackLaws.{then_some}
-use Rattle.records.proofs.RecordBytes.{listing-is, fields_is}
+use Rattle.records.proofs.RecordBytes.{listing_is, fields_is}
 
 -- ---- the answer for the whole record
 
@@ -69,13 +69,13 @@ pub record Heading (s : List ℕ) (v f p : Num) : Type 0 where
   pub privileged : not p.ok ≡ false
 
 module _ (s entry exit : List ℕ) (v : Num) (is : v ≡ num_of (number 32 s 0)) where
-  pub record-unversioned : not v.ok ≡ true → Unpacks (read_record s) entry exit 0
+  pub record_unversioned : not v.ok ≡ true → Unpacks (read_record s) entry exit 0
   unfolding read_record
-  record-unversioned h = rw (num_none (number 32 s 0) v is (not-true v.ok h)) refl
+  record_unversioned h = rw (num_none (number 32 s 0) v is (not-true v.ok h)) refl
 
-  pub record-version : not v.ok ≡ false → (v.value ≡ 1 → ⊥) → Unpacks (read_record s) entry exit 0
+  pub record_version : not v.ok ≡ false → (v.value ≡ 1 → ⊥) → Unpacks (read_record s) entry exit 0
   unfolding read_record
-  record-version found h = rw (num_some (number 32 s 0) v is (not-false v.ok found), ne_eqb v.value 1 h) refl
+  record_version found h = rw (num_some (number 32 s 0) v is (not-false v.ok found), ne_eqb v.value 1 h) refl
 
 record_is : (s : List ℕ) (v : Num) → v ≡ num_of (number 32 s 0) → not v.ok ≡ false → v.value ≡ 1 →
     read_record s ≡ ended s (bind (limited 3 s v.next) (λ flags a. bind (number 64 s a) (λ p b. people_at packed_reader flags p s b)))
@@ -85,12 +85,12 @@ record_is s v is found one =
 
 module _ (s entry exit : List ℕ) (v : Num) (is : v ≡ num_of (number 32 s 0)) (found : not v.ok ≡ false) (one : v.value ≡ 1)
     (f : Num) (such : f ≡ num_of (limited 3 s v.next)) where
-  pub record-flags : not f.ok ≡ true → Unpacks (read_record s) entry exit 0
-  record-flags h = rw (record_is s v is found one, num_none (limited 3 s v.next) f such (not-true f.ok h)) refl
+  pub record_flags : not f.ok ≡ true → Unpacks (read_record s) entry exit 0
+  record_flags h = rw (record_is s v is found one, num_none (limited 3 s v.next) f such (not-true f.ok h)) refl
 
-  pub record-privileges : not f.ok ≡ false → (p : Num) → p ≡ num_of (number 64 s f.next) → not p.ok ≡ true →
+  pub record_privileges : not f.ok ≡ false → (p : Num) → p ≡ num_of (number 64 s f.next) → not p.ok ≡ true →
       Unpacks (read_record s) entry exit 0
-  record-privileges flagged p so h =
+  record_privileges flagged p so h =
       rw (
         record_is s v is found one,
         num_some (limited 3 s v.next) f such (not-false f.ok flagged),
@@ -116,24 +116,24 @@ module _ {s : List ℕ} {v f p : Num} (h : Heading s v f p) where
     people_outcome : outcome (written listing_of people) entry 0 ≡ outcome (people_copied f.value s p.next) middle 12
     unfolding little people
     people_outcome =
-        ap (λ (x : Read (List ℕ)). outcome x entry 0) (listing-is f.value p.value s p.next)
+        ap (λ (x : Read (List ℕ)). outcome x entry 0) (listing_is f.value p.value s p.next)
         ∙ then_some (people_copied f.value s) entry 0 (little 4 f.value ++ little 8 p.value) p.next
         ∙ ap (λ (l : List ℕ). outcome (people_copied f.value s p.next) l 12) (sym made)
 
-    pub record-refused : outcome (people_copied f.value s p.next) middle 12 ≡ refused → Unpacks (read_record s) entry exit 0
-    record-refused e = rw record_people (ended_refused s entry exit people (people_outcome ∙ e))
+    pub record_refused_lem : outcome (people_copied f.value s p.next) middle 12 ≡ refused → Unpacks (read_record s) entry exit 0
+    record_refused_lem e = rw record_people (ended_refused s entry exit people (people_outcome ∙ e))
 
     module _ (to next : ℕ) (e : outcome (people_copied f.value s p.next) middle 12 ≡ done exit to next) where
-      pub record-longer : (next ≡ length s → ⊥) → Unpacks (read_record s) entry exit 0
-      record-longer k = rw record_people (ended_longer s entry exit to next people (people_outcome ∙ e) k)
+      pub record_longer : (next ≡ length s → ⊥) → Unpacks (read_record s) entry exit 0
+      record_longer k = rw record_people (ended_longer s entry exit to next people (people_outcome ∙ e) k)
 
-      pub record-done : next ≡ length s → Unpacks (read_record s) entry exit to
-      record-done k = rw record_people (ended_done s entry exit to next people (people_outcome ∙ e) k)
+      pub record_done : next ≡ length s → Unpacks (read_record s) entry exit to
+      record_done k = rw record_people (ended_done s entry exit to next people (people_outcome ∙ e) k)
 
-      pub record-keeping : next ≡ length s → Such Keeping (people_at packed_reader f.value p.value s p.next) →
+      pub record_keeping : next ≡ length s → Such Keeping (people_at packed_reader f.value p.value s p.next) →
           ReadKeeping (read_record s)
       unfolding people
-      record-keeping k x = rw record_people (ended_keeping s entry exit to next people (people_outcome ∙ e) k x)
+      record_keeping k x = rw record_people (ended_keeping s entry exit to next people (people_outcome ∙ e) k x)
 
 -- where the buffer is long enough
 pub kept_fit : (fits : Bool) (q : Read Token) → fits ≡ true → ReadKeeping q → ReadKeeping (cond fits q none)
@@ -152,11 +152,11 @@ pub unpacked_unfit : (fits : Bool) (q : Read Token) (entry exit : List ℕ) → 
 unpacked_unfit fits q entry exit e z = rw e (refl, z)
 
 module _ (fits : Bool) (fit : fits ≡ true) (entry exit : List ℕ) (r : ℕ) where
-  pub unpacked-none : (q : Read Token) (last : List ℕ) → Unpacks q entry exit r → r ≡ 0 → last ≡ replicate (length exit) 0 →
+  pub unpacked_none : (q : Read Token) (last : List ℕ) → Unpacks q entry exit r → r ≡ 0 → last ≡ replicate (length exit) 0 →
       length exit ≡ length entry → Unpacked (cond fits q none) entry last r
-  unpacked-none none last u z e l = rw fit (u, e ∙ ap (λ (n : ℕ). replicate n 0) l)
-  unpacked-none (some t end) last u z e l = absurd (omega (arith, u.0, listing_some t))
+  unpacked_none none last u z e l = rw fit (u, e ∙ ap (λ (n : ℕ). replicate n 0) l)
+  unpacked_none (some t end) last u z e l = absurd (omega (arith, u.0, listing_some t))
 
-  pub unpacked-some : (q : Read Token) → Unpacks q entry exit r → (r ≡ 0 → ⊥) → Unpacked (cond fits q none) entry exit r
-  unpacked-some none u h = absurd (h u)
-  unpacked-some (some t end) u h = rw fit u
+  pub unpacked_some : (q : Read Token) → Unpacks q entry exit r → (r ≡ 0 → ⊥) → Unpacked (cond fits q none) entry exit r
+  unpacked_some none u h = absurd (h u)
+  unpacked_some (some t end) u h = rw fit u

@@ -179,9 +179,9 @@ module _ (flags p : ℕ) (s : List ℕ) where
       fronted_bind (confinement_at packed_reader (confined flags) s c) (λ w e.
       record { front = ap (λ (v : List ℕ). some v e) (sym (append_assoc (little 4 flags) (little 8 p) _)) })))))
 
-  pub listing-is : (at : ℕ) →
+  pub listing_is : (at : ℕ) →
       written listing_of (people_at packed_reader flags p s at) ≡ then (some (little 4 flags ++ little 8 p) at) (people_copied flags s)
-  listing-is at =
+  listing_is at =
       (listing_front at).front ∙ ap (λ (x : Read (List ℕ)). bind x (λ v e. some ((little 4 flags ++ little 8 p) ++ v) e)) (people_is at)
 
 -- ---- the fields

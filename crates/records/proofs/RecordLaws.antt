@@ -1,5 +1,5 @@
--- The packed record as a format: its numbers and its identities are read back and have one form (packed-format).
--- In order: a number (number-kept), the words of an identity (words-..), an identity (packed-identity-kept).
+-- The packed record as a format: its numbers and its identities are read back and have one form (packed_format).
+-- In order: a number (number_kept), the words of an identity (words-..), an identity (packed_identity_kept).
 -- Assumes nothing.
 use Prim.Native.Nat.{ℕ, zero, suc, ◌+◌, ◌*◌, ◌^◌, ◌<◌, ◌≤◌}
 use mathlib.Core.Path.{◌≡◌, refl, sym, ap, ap₂, ◌∙◌}
@@ -15,15 +15,15 @@ use Rattle.base.specs.Bytes.Read.{some}
 use Rattle.base.specs.Sevens.{number, packed}
 use Rattle.base.proofs.BytesLaws.{part_append, part_whole, part_empty, part_cons, bytes_append}
 use Rattle.base.proofs.ValueLaws.{length_little, length_big, little_bytes, big_bytes}
-use Rattle.base.proofs.WordsLaws.{u32-at-lt, u32-at-back, little-of-u32-at, u48-be-at-lt, u48-be-at-back, big-of-u48}
-use Rattle.base.proofs.SevensLaws.{number_lt, number_bounds, number-of-drop, number-form}
+use Rattle.base.proofs.WordsLaws.{u32_at_lt, u32_at_back, little_of_u32_at, u48_be_at_lt, u48_be_at_back, big_of_u48}
+use Rattle.base.proofs.SevensLaws.{number_lt, number_bounds, number_of_drop, number_form}
 use Rattle.base.proofs.PlaceLaws.{length_three, Stands, stands_left, stands_right, Formed, formed_append, formed_same}
 use Rattle.base.proofs.ReadLaws.{bound, allowed, moved}
 use Rattle.sids.proofs.SidLaws.{sid_shape, sid_of_shape}
 use Rattle.records.specs.Shaped.{All, Identity}
 use Rattle.records.specs.Fields.{many, each}
 use Rattle.records.specs.TokenRecord.{packed_identity, packed_reader, packed_words, pack_identity, packed_writer}
-use Rattle.records.proofs.FormatLaws.{Kept, many-back, many-form}
+use Rattle.records.proofs.FormatLaws.{Kept, many_back, many_form}
 use Rattle.records.proofs.FieldsLaws.{Format}
 
 -- ---- numbers
@@ -31,10 +31,10 @@ use Rattle.records.proofs.FieldsLaws.{Format}
 pub number_kept : (bits : ℕ) → bits ≤ 64 → Kept (number bits) packed (λ v. v < 2 ^ bits)
 number_kept bits h =
     record {
-      back = λ v o {s} {at} {q} x. number-of-drop bits h s q at v o x.here;
+      back = λ v o {s} {at} {q} x. number_of_drop bits h s q at v o x.here;
       form = λ {s} {at} {n} {a = v} b i e.
           let p = number_bounds bits s at v n e in (
-            record { past = omega (arith, p.0); inside = p.1; bytes = number-form bits h s at v n b e },
+            record { past = omega (arith, p.0); inside = p.1; bytes = number_form bits h s at v n b e },
             number_lt bits s at v n e,
           );
     }
@@ -60,7 +60,7 @@ length_words (suc n) w at = ap suc (length_words n w (at + 4))
 pub words_fit : (n : ℕ) (w : List ℕ) (at : ℕ) → T (are_bytes w) → All (λ v. v < 2 ^ 32) (words_at n w at)
 unfolding words_at
 words_fit zero w at b = tt
-words_fit (suc n) w at b = (u32-at-lt w at b, words_fit n w (at + 4) b)
+words_fit (suc n) w at b = (u32_at_lt w at b, words_fit n w (at + 4) b)
 
 -- packed, one after the other
 pub words_packed : (n : ℕ) (w : List ℕ) (at : ℕ) → packed_words n w at ≡ each packed (words_at n w at)
@@ -75,7 +75,7 @@ unfolding words_at each
 words_little zero w at e b h k = let z : e ≡ at = omega arith in rw z (part_empty w at)
 words_little (suc n) w at e b h k =
     sym (part_append w at (at + 4) e (omega arith) (omega arith))
-    ∙ ap₂ ◌++◌ (little-of-u32-at w at b (omega arith)) (words_little n w (at + 4) e b (omega arith) k)
+    ∙ ap₂ ◌++◌ (little_of_u32_at w at b (omega arith)) (words_little n w (at + 4) e b (omega arith) k)
 
 -- words that stand in four bytes each are read
 pub words_stand : (ws : List ℕ) {w : List ℕ} {at : ℕ} {q : List ℕ} → All (λ v. v < 2 ^ 32) ws → Stands w at (each (little 4) ws) q →
@@ -86,7 +86,7 @@ words_stand (v ∷ ws) {w} {at} {q} o x =
     let l = length_little 4 v in
     let f = stands_left (little 4 v) (each (little 4) ws) x in
     let g : Stands w (at + 4) (each (little 4) ws) q = rw l at (stands_right (little 4 v) (each (little 4) ws) x) in
-    ap₂ ◌∷◌ (u32-at-back w (each (little 4) ws ++ q) at v f.inside f.here o.0) (words_stand ws o.1 g)
+    ap₂ ◌∷◌ (u32_at_back w (each (little 4) ws ++ q) at v f.inside f.here o.0) (words_stand ws o.1 g)
 
 pub length_each_little : (ws : List ℕ) → length (each (little 4) ws) ≡ 4 * length ws
 unfolding each
@@ -115,7 +115,7 @@ sid_bytes_lem w o =
     let a : part w 0 (length w) ≡ byte_at w 0 ∷ part w 1 (length w) = part_cons w 0 (length w) (omega arith) (omega arith) in
     let b : part w 1 (length w) ≡ byte_at w 1 ∷ part w 2 (length w) = part_cons w 1 (length w) (omega arith) (omega arith) in
     let c : part w 2 8 ++ part w 8 (length w) ≡ part w 2 (length w) = part_append w 2 8 (length w) (omega arith) (omega arith) in
-    let d : part w 2 8 ≡ big 6 (u48_be_at w 2) = big-of-u48 w 2 o.bytes (omega arith) in
+    let d : part w 2 8 ≡ big 6 (u48_be_at w 2) = big_of_u48 w 2 o.bytes (omega arith) in
     let e : part w 8 (length w) ≡ each (little 4) (words_at (byte_at w 1) w 8) =
     words_little (byte_at w 1) w 8 (length w) o.bytes l (omega arith) in
     sym (sym (part_whole w) ∙ a ∙ ap₂ ◌∷◌ x.one (b ∙ ap (λ (l : List ℕ). byte_at w 1 ∷ l) (sym c ∙ ap₂ ◌++◌ d e)))
@@ -148,7 +148,7 @@ module _ (n v : ℕ) (ws : List ℕ) (long : length ws ≡ n) (few : n ≤ 15) (
   unfolding pack_identity
   pack_sid_bytes =
       let l = length_sid_bytes in
-      let a : u48_be_at (sid_bytes n v ws) 2 ≡ v = u48-be-at-back (sid_bytes n v ws) (each (little 4) ws) 2 v (omega arith) refl fits in
+      let a : u48_be_at (sid_bytes n v ws) 2 ≡ v = u48_be_at_back (sid_bytes n v ws) (each (little 4) ws) 2 v (omega arith) refl fits in
       let b : packed_words n (sid_bytes n v ws) 8 ≡ each packed ws = words_packed n (sid_bytes n v ws) 8 ∙ ap (each packed) sid_bytes_words in
       ap₂ (λ (x : ℕ) (y : List ℕ). packed n ++ (packed x ++ y)) a b
 
@@ -166,12 +166,12 @@ packed_identity_kept =
           let f = d.few in
           let m : many (number 32) n s (at + length (packed n) + length (packed v)) ≡
           some ws (at + length (packed n) + length (packed v) + length (each packed ws)) =
-          let r = many-back number_32 ws (words_fit (byte_at w 1) w 8 o.bytes) (stands_right (packed v) (each packed ws) y) in
+          let r = many_back number_32 ws (words_fit (byte_at w 1) w 8 o.bytes) (stands_right (packed v) (each packed ws) y) in
           rw length_words at r in
           rw (
             number_32.back (byte_at w 1) (omega arith) (stands_left (packed n) (packed v ++ each packed ws) e),
             le-leb (byte_at w 1) 15 f,
-            number_48.back (u48_be_at w 2) (u48-be-at-lt w 2 o.bytes) (stands_left (packed v) (each packed ws) y),
+            number_48.back (u48_be_at w 2) (u48_be_at_lt w 2 o.bytes) (stands_left (packed v) (each packed ws) y),
             m,
           )
           (ap₂ some (sid_bytes_lem w o)
@@ -184,7 +184,7 @@ packed_identity_kept =
           let z = bound _ _ _ _ y.then in
           let g = number_32.form b i x.first in
           let h = number_48.form b g.0.inside y.first in
-          let j = many-form number_32 x.a b h.0.inside z.first in
+          let j = many_form number_32 x.a b h.0.inside z.first in
           let few = leb-true _ _ l.0 in
           moved (λ w n. Formed s at n (pack_identity w) × Identity w) z.then (
             formed_same (sym (pack_sid_bytes x.a y.a z.a j.1 few h.1 j.2))

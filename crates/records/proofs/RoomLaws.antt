@@ -1,7 +1,7 @@
 -- Laws of the room for what is unpacked.
--- In order: what a step leaves of the room (room-left, room_for, room-same, room_whole, fits-fourfold, quarter-fits), what
--- a step wrote (refused-within, Counted, counted-room, within-after), a number moves on (number_past,
--- limited-past), a buffer that is cleared (fill_more, fill_none, filled). Assumes nothing.
+-- In order: what a step leaves of the room (room_left, room_for, room_same, room_whole, fits_fourfold, quarter_fits), what
+-- a step wrote (refused_within, Counted, counted_room, within_after), a number moves on (number_past,
+-- limited_past), a buffer that is cleared (fill_more, fill_none, filled). Assumes nothing.
 use Prim.Native.Nat.{ℕ, zero, suc, ◌+◌, ◌-◌, ◌*◌, ◌/◌, ◌<◌, ◌≤◌}
 use mathlib.Core.Path.{◌≡◌, refl, sym, ap, ◌∙◌}
 use mathlib.Core.List.{List, ◌++◌, append-nil}
@@ -26,8 +26,8 @@ use Rattle.records.specs.Unpacking.{limited, Roomy, Within, room_fits}
 
 module _ {room o size at most : ℕ} (r : Roomy room o size at most) where
   -- after a step that wrote up to a place and read up to another
-  pub room-left : {to next less : ℕ} → to + 4 * at ≤ o + 4 * next → to + less ≤ o + most → Roomy room to size next less
-  room-left {to} {next} {less} p q = record { fits = go r.fits }
+  pub room_left : {to next less : ℕ} → to + 4 * at ≤ o + 4 * next → to + less ≤ o + most → Roomy room to size next less
+  room_left {to} {next} {less} p q = record { fits = go r.fits }
     where
       go : (o + 4 * size ≤ room + 4 * at) ⊎ (o + most ≤ room) → (to + 4 * size ≤ room + 4 * next) ⊎ (to + less ≤ room)
       go (inl h) = inl (omega arith)

@@ -1,6 +1,6 @@
 -- What is written of a token is read back, and what is read is written so.
--- In order: the listing (listing-back, listing-form), the record (record-back, record-form), what an accepted conversion is (accepted), the
--- two converters one after the other (there_and_back, back-and-there, as-listing-inj, as-record-inj). Their lengths are in LimitLaws.
+-- In order: the listing (listing_back, listing_form), the record (record_back, record_form), what an accepted conversion is (accepted), the
+-- two converters one after the other (there_and_back, back_and_there, as_listing_inj, as_record_inj). Their lengths are in LimitLaws.
 -- Assumes nothing.
 use Prim.Native.Nat.{ℕ, ◌+◌}
 use mathlib.Core.Path.{◌≡◌, refl, sym, ap, ◌∙◌}
@@ -25,7 +25,7 @@ use Rattle.records.specs.FlatListing.{read_listing, listing_of, flat_reader, fla
 use Rattle.records.specs.TokenRecord.{read_record, record_of, packed_reader, packed_writer}
 use Rattle.records.specs.TokenRules.{keeps}
 use Rattle.records.specs.Converters.{Conversion, converted, full_result, refusal, as_listing, as_record}
-use Rattle.records.proofs.FieldsLaws.{fields-kept}
+use Rattle.records.proofs.FieldsLaws.{fields_kept}
 use Rattle.records.proofs.ListingLaws.{flat_format}
 use Rattle.records.proofs.RecordLaws.{number_32, packed_format}
 
@@ -35,14 +35,14 @@ pub listing_back : (t : Token) → Shaped t → read_listing (listing_of t) ≡ 
 unfolding read_listing listing_of
 listing_back t o =
     let w = fields_bytes flat_writer t in
-    rw ((fields-kept flat_format).back t o (stands_whole w), zero-add, eq-eqb (length w) (length w) refl)
+    rw ((fields_kept flat_format).back t o (stands_whole w), zero-add, eq-eqb (length w) (length w) refl)
 
 pub listing_form : (s : List ℕ) (t : Token) (e : ℕ) → T (are_bytes s) → read_listing s ≡ some t e → (s ≡ listing_of t) × Shaped t
 unfolding read_listing listing_of
 listing_form s t e b h =
     let x = bound (fields_at flat_reader s 0) _ _ _ h in
     let l = allowed (eqb x.next (length s)) _ _ _ x.then in
-    let f = (fields-kept flat_format).form b (omega arith) x.first in
+    let f = (fields_kept flat_format).form b (omega arith) x.first in
     let n : x.next ≡ length s = eqb-true _ _ l.0 in
     let w : s ≡ fields_bytes flat_writer x.a = sym (part_whole s) ∙ ap (part s 0) (sym n) ∙ f.0.bytes in
     moved (λ t n. (s ≡ fields_bytes flat_writer t) × Shaped t) l.1 (w, f.1)
@@ -58,7 +58,7 @@ record_back t o =
     let e : 0 + length v + length w ≡ length (v ++ w) = length_two 0 v w ∙ zero-add (length (v ++ w)) in
     rw (
       number_32.back 1 (omega arith) (stands_left v w x),
-      (fields-kept packed_format).back t o (stands_right v w x),
+      (fields_kept packed_format).back t o (stands_right v w x),
       eq-eqb (0 + length v + length w) (length (v ++ w)) e,
     )
     (ap (some t) e)
@@ -71,7 +71,7 @@ record_form s t e b h =
     let y = bound (fields_at packed_reader s x.next) _ _ _ l.1 in
     let m = allowed (eqb y.next (length s)) _ _ _ y.then in
     let g = number_32.form b (omega arith) x.first in
-    let h = (fields-kept packed_format).form b g.0.inside y.first in
+    let h = (fields_kept packed_format).form b g.0.inside y.first in
     let v : packed x.a ≡ packed 1 = ap packed (eqb-true _ _ l.0) in
     let f = formed_append (formed_same v g.0) h.0 in
     let n : y.next ≡ length s = eqb-true _ _ m.0 in

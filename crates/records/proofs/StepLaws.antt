@@ -11,40 +11,40 @@ use Rattle.records.specs.Unpacking.{then, outcome, word_at, member_copied, membe
 use Rattle.records.specs.TokenRecord.{packed_identity}
 use Rattle.records.specs.Unpacking.Outcome.{refused, done}
 use Rattle.records.specs.declared.unpacking.Step.{Step}
-use Rattle.records.proofs.UnpackLaws.{then-refused, then-done}
+use Rattle.records.proofs.UnpackLaws.{then_refused, then_done}
 
 -- what a reading comes to, from a step as the code answers it
 module _ (q : Read (List ℕ)) (out : List ℕ) (o : ℕ) (r : Step) (l : List ℕ) (is : left r l ≡ outcome q out o) where
-  pub step-refused : not r.ok ≡ true → outcome q out o ≡ refused
-  step-refused h = sym is ∙ rw (not-true r.ok h)
+  pub step_refused : not r.ok ≡ true → outcome q out o ≡ refused
+  step_refused h = sym is ∙ rw (not-true r.ok h)
 
-  pub step-done : not r.ok ≡ false → outcome q out o ≡ done l r.to r.next
-  step-done h = sym is ∙ rw (not-false r.ok h)
+  pub step_done : not r.ok ≡ false → outcome q out o ≡ done l r.to r.next
+  step_done h = sym is ∙ rw (not-false r.ok h)
 
-  pub after-refused : (k : ℕ → Read (List ℕ)) → not r.ok ≡ true → outcome (then q k) out o ≡ refused
-  after-refused k h = then-refused k out o q (step-refused h)
+  pub after_refused : (k : ℕ → Read (List ℕ)) → not r.ok ≡ true → outcome (then q k) out o ≡ refused
+  after_refused k h = then_refused k out o q (step_refused h)
 
-  pub after-done : (k : ℕ → Read (List ℕ)) → not r.ok ≡ false → outcome (then q k) out o ≡ outcome (k r.next) l r.to
-  after-done k h = then-done k out o q l r.to r.next (step-done h)
+  pub after_done : (k : ℕ → Read (List ℕ)) → not r.ok ≡ false → outcome (then q k) out o ≡ outcome (k r.next) l r.to
+  after_done k h = then_done k out o q l r.to r.next (step_done h)
 
 -- ---- a member
 
 module _ (attrs : Bool) (s : List ℕ) (at : ℕ) (out : List ℕ) (o : ℕ) (r : Step) (l : List ℕ)
     (is : left r l ≡ outcome (packed_identity s at) out o) where
-  pub member-refused : not r.ok ≡ true → outcome (member_copied attrs s at) out o ≡ refused
-  member-refused h = go attrs
+  pub member_refused : not r.ok ≡ true → outcome (member_copied attrs s at) out o ≡ refused
+  member_refused h = go attrs
     where
       go : (b : Bool) → outcome (member_copied b s at) out o ≡ refused
-      go true = after-refused (packed_identity s at) out o r l is (word_at s) h
-      go false = step-refused (packed_identity s at) out o r l is h
+      go true = after_refused (packed_identity s at) out o r l is (word_at s) h
+      go false = step_refused (packed_identity s at) out o r l is h
 
   -- an identity alone
-  pub member-alone : attrs ≡ false → left r l ≡ outcome (member_copied attrs s at) out o
-  member-alone e = rw e is
+  pub member_alone : attrs ≡ false → left r l ≡ outcome (member_copied attrs s at) out o
+  member_alone e = rw e is
 
   -- an identity with a word after it
-  pub member-worded : attrs ≡ true → not r.ok ≡ false → outcome (member_copied attrs s at) out o ≡ outcome (word_at s r.next) l r.to
-  member-worded e h = rw e (after-done (packed_identity s at) out o r l is (word_at s) h)
+  pub member_worded : attrs ≡ true → not r.ok ≡ false → outcome (member_copied attrs s at) out o ≡ outcome (word_at s r.next) l r.to
+  member_worded e h = rw e (after_done (packed_identity s at) out o r l is (word_at s) h)
 
 -- the room for members
 pub room_more : (attrs : Bool) (n : ℕ) → 0 < n → members_room attrs n ≡ members_room attrs 1 + members_room attrs (n - 1)

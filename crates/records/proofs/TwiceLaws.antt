@@ -1,5 +1,5 @@
--- A record is at most twice as long as the listing of the same token (record-twice): so is each part of it.
--- In order: a sequence (each_twice), the fields (fields-twice), the two formats. Assumes nothing.
+-- A record is at most twice as long as the listing of the same token (record_twice): so is each part of it.
+-- In order: a sequence (each_twice), the fields (fields_twice), the two formats. Assumes nothing.
 use Prim.Native.Nat.{ℕ, suc, ◌*◌, ◌^◌, ◌<◌, ◌≤◌}
 use mathlib.Core.List.{List, [], ◌∷◌}
 use mathlib.Core.Bool.{Bool, true, false}
@@ -7,7 +7,7 @@ use native.Mathlib.Omega.{arith}
 use lib.ListN.{length, length-append}
 use Rattle.base.specs.Bytes.{byte_at, u48_be_at}
 use Rattle.base.proofs.ValueLaws.{length_little}
-use Rattle.base.proofs.WordsLaws.{u48-be-at-lt}
+use Rattle.base.proofs.WordsLaws.{u48_be_at_lt}
 use Rattle.base.proofs.SevensLaws.{packed_length}
 use Rattle.sids.proofs.SidLaws.{sid_shape}
 use Rattle.records.specs.Token.{Group, Confined, Token, confined}
@@ -73,7 +73,7 @@ identity_twice w o =
     let f = x.few in
     let m = x.long in
     let a = packed_length 0 (byte_at w 1) (omega arith) (omega arith) in
-    let l = u48-be-at-lt w 2 o.bytes in
+    let l = u48_be_at_lt w 2 o.bytes in
     let b = packed_length 6 (u48_be_at w 2) (omega arith) (omega (arith, l)) in
     let c = words_short (byte_at w 1) w 8 o in
     simp length-append (omega (arith, a, b, c))

@@ -28,16 +28,16 @@ use Rattle.records.specs.Unpacking.Outcome.{refused, done}
 
 -- a number of at most so much
 module _ (most : ℕ) (r : Num) where
-  pub limited-over : (q : Read ℕ) → r ≡ num_of q → most < r.value →
+  pub limited_over : (q : Read ℕ) → r ≡ num_of q → most < r.value →
       record { ok = false; value = 0; next = 0 } ≡ num_of (bind q (λ n a. only (leb n most) (some n a)))
   unfolding num_of
-  limited-over none e h = refl
-  limited-over (some v n) e h = let k : r.value ≡ v = ap (λ (x : Num). x.value) e in rw (lt-leb v most (omega arith))
+  limited_over none e h = refl
+  limited_over (some v n) e h = let k : r.value ≡ v = ap (λ (x : Num). x.value) e in rw (lt-leb v most (omega arith))
 
-  pub limited-within : (q : Read ℕ) → r ≡ num_of q → r.value ≤ most → r ≡ num_of (bind q (λ n a. only (leb n most) (some n a)))
+  pub limited_within : (q : Read ℕ) → r ≡ num_of q → r.value ≤ most → r ≡ num_of (bind q (λ n a. only (leb n most) (some n a)))
   unfolding num_of
-  limited-within none e h = e
-  limited-within (some v n) e h = let k : r.value ≡ v = ap (λ (x : Num). x.value) e in rw (le-leb v most (omega arith)) e
+  limited_within none e h = e
+  limited_within (some v n) e h = let k : r.value ≡ v = ap (λ (x : Num). x.value) e in rw (le-leb v most (omega arith)) e
 
 -- a test inside is a test outside
 pub limited_bind : {A : Type 0} (q : Read ℕ) (most : ℕ) (k : ℕ → ℕ → Read A) →
@@ -52,10 +52,10 @@ limited_bind (some v n) most k = go (leb v most)
 -- ---- readings in a row
 
 module _ (k : ℕ → Read (List ℕ)) (out : List ℕ) (o : ℕ) where
-  pub then-refused : (r : Read (List ℕ)) → outcome r out o ≡ refused → outcome (then r k) out o ≡ refused
+  pub then_refused : (r : Read (List ℕ)) → outcome r out o ≡ refused → outcome (then r k) out o ≡ refused
   unfolding outcome
-  then-refused none e = refl
-  then-refused (some w a) e = cc
+  then_refused none e = refl
+  then_refused (some w a) e = cc
 
   pub then_some : (w : List ℕ) (a : ℕ) → outcome (then (some w a) k) out o ≡ outcome (k a) (sets out o w) (o + length w)
   unfolding outcome
@@ -67,10 +67,10 @@ module _ (k : ℕ → Read (List ℕ)) (out : List ℕ) (o : ℕ) where
           let x : o + length (w ++ v) ≡ o + length w + length v = omega (arith, length-append w v) in
           ap₂ (λ (l : List ℕ) (p : ℕ). done l p end) (sets_append out o w v) x
 
-  pub then-done : (r : Read (List ℕ)) (l : List ℕ) (p a : ℕ) → outcome r out o ≡ done l p a → outcome (then r k) out o ≡ outcome (k a) l p
+  pub then_done : (r : Read (List ℕ)) (l : List ℕ) (p a : ℕ) → outcome r out o ≡ done l p a → outcome (then r k) out o ≡ outcome (k a) l p
   unfolding outcome
-  then-done none l p a e = cc
-  then-done (some w b) l p a e =
+  then_done none l p a e = cc
+  then_done (some w b) l p a e =
       let eb : b ≡ a = cc in
       let ep : o + length w ≡ p = cc in
       let el : sets out o w ≡ l = cc in
@@ -81,41 +81,41 @@ module _ (f : List ℕ → ℕ → Read (List ℕ)) (s : List ℕ) (at : ℕ) (o
   unfolding copied outcome
   copied_none n e = rw (e, add-zero)
 
-  pub copied-refused : (n : ℕ) → 0 < n → outcome (f s at) out o ≡ refused → outcome (copied f n s at) out o ≡ refused
+  pub copied_refused : (n : ℕ) → 0 < n → outcome (f s at) out o ≡ refused → outcome (copied f n s at) out o ≡ refused
   unfolding copied
-  copied-refused zero h e = absurd (omega arith)
-  copied-refused (suc n) h e = then-refused (λ (a : ℕ). copied f n s a) out o (f s at) e
+  copied_refused zero h e = absurd (omega arith)
+  copied_refused (suc n) h e = then_refused (λ (a : ℕ). copied f n s a) out o (f s at) e
 
-  pub copied-done : (n : ℕ) (l : List ℕ) (p a : ℕ) → 0 < n → outcome (f s at) out o ≡ done l p a →
+  pub copied_done : (n : ℕ) (l : List ℕ) (p a : ℕ) → 0 < n → outcome (f s at) out o ≡ done l p a →
       outcome (copied f n s at) out o ≡ outcome (copied f (n - 1) s a) l p
   unfolding copied
-  copied-done zero l p a h e = absurd (omega arith)
-  copied-done (suc n) l p a h e =
+  copied_done zero l p a h e = absurd (omega arith)
+  copied_done (suc n) l p a h e =
       let x : n ≡ suc n - 1 = omega arith in
-      then-done (λ (b : ℕ). copied f n s b) out o (f s at) l p a e ∙ ap (λ (m : ℕ). outcome (copied f m s a) l p) x
+      then_done (λ (b : ℕ). copied f n s b) out o (f s at) l p a e ∙ ap (λ (m : ℕ). outcome (copied f m s a) l p) x
 
 -- ---- a number in a row of readings
 
 module _ (s : List ℕ) (at : ℕ) (out : List ℕ) (o : ℕ) (r : Num) (is : r ≡ num_of (number 32 s at)) where
-  pub word-refused : not r.ok ≡ true → outcome (word_at s at) out o ≡ refused
+  pub word_refused : not r.ok ≡ true → outcome (word_at s at) out o ≡ refused
   unfolding outcome
-  word-refused h = rw (num_none (number 32 s at) r is (not-true r.ok h))
+  word_refused h = rw (num_none (number 32 s at) r is (not-true r.ok h))
 
-  pub word-done : not r.ok ≡ false → outcome (word_at s at) out o ≡ done (sets out o (little 4 r.value)) (o + 4) r.next
+  pub word_done : not r.ok ≡ false → outcome (word_at s at) out o ≡ done (sets out o (little 4 r.value)) (o + 4) r.next
   unfolding little outcome
-  word-done h = rw (num_some (number 32 s at) r is (not-false r.ok h))
+  word_done h = rw (num_some (number 32 s at) r is (not-false r.ok h))
 
 -- a count and what follows it
 module _ (most : ℕ) (s : List ℕ) (at : ℕ) (k : ℕ → ℕ → Read (List ℕ)) (out : List ℕ) (o : ℕ) (r : Num)
     (is : r ≡ num_of (limited most s at)) where
-  pub counted-refused : not r.ok ≡ true → outcome (counted most s at k) out o ≡ refused
+  pub counted_refused : not r.ok ≡ true → outcome (counted most s at k) out o ≡ refused
   unfolding outcome
-  counted-refused h = rw (num_none (limited most s at) r is (not-true r.ok h))
+  counted_refused h = rw (num_none (limited most s at) r is (not-true r.ok h))
 
-  pub counted-done : not r.ok ≡ false →
+  pub counted_done : not r.ok ≡ false →
       outcome (counted most s at k) out o ≡ outcome (k r.value r.next) (sets out o (little 4 r.value)) (o + 4)
   unfolding little
-  counted-done h =
+  counted_done h =
       rw (num_some (limited most s at) r is (not-false r.ok h)) (then_some (k r.value) out o (little 4 r.value) r.next)
 
 -- ---- an identity
@@ -166,9 +166,9 @@ many_length f s (suc n) at xs end e = many_length_next n (f s at) (many f n s) x
 -- ---- where the flags say what follows
 
 module _ (flags : ℕ) (s : List ℕ) (at : ℕ) (out : List ℕ) (o : ℕ) where
-  pub rest-none : and flags 1 ≡ 0 → outcome (rest_copied (confined flags) s at) out o ≡ done out o at
+  pub rest_none : and flags 1 ≡ 0 → outcome (rest_copied (confined flags) s at) out o ≡ done out o at
   unfolding outcome
-  rest-none h = rw (eq-eqb (and flags 1) 0 h, add-zero)
+  rest_none h = rw (eq-eqb (and flags 1) 0 h, add-zero)
 
   pub rest_some : (and flags 1 ≡ 0 → ⊥) → outcome (rest_copied (confined flags) s at) out o ≡ outcome (confinement_copied s at) out o
   rest_some h = rw (ne_eqb (and flags 1) 0 h)
@@ -191,25 +191,25 @@ identity_is s at = limited_bind (number 32 s at) 15
     (λ n a. bind (number 48 s a) (λ v b. bind (many (number 32) n s b) (λ ws end. some (1 ∷ n ∷ (big 6 v ++ each (little 4) ws)) end)))
 
 module _ (s : List ℕ) (at : ℕ) (out : List ℕ) (o : ℕ) (r : Num) (is : r ≡ num_of (limited 15 s at)) where
-  pub identity-uncounted : not r.ok ≡ true → outcome (packed_identity s at) out o ≡ refused
+  pub identity_uncounted : not r.ok ≡ true → outcome (packed_identity s at) out o ≡ refused
   unfolding outcome
-  identity-uncounted h = rw (identity_is s at, num_none (limited 15 s at) r is (not-true r.ok h))
+  identity_uncounted h = rw (identity_is s at, num_none (limited 15 s at) r is (not-true r.ok h))
 
   module _ (t : Num) (such : t ≡ num_of (number 48 s r.next)) (h : not r.ok ≡ false) where
-    pub identity-unnamed : not t.ok ≡ true → outcome (packed_identity s at) out o ≡ refused
+    pub identity_unnamed : not t.ok ≡ true → outcome (packed_identity s at) out o ≡ refused
     unfolding outcome
-    identity-unnamed k =
+    identity_unnamed k =
         rw (
           identity_is s at,
           num_some (limited 15 s at) r is (not-false r.ok h),
           num_none (number 48 s r.next) t such (not-true t.ok k),
         )
 
-    pub identity-done : not t.ok ≡ false →
+    pub identity_done : not t.ok ≡ false →
         outcome (packed_identity s at) out o
         ≡ outcome (copied word_at r.value s t.next) (sets out o (1 ∷ r.value ∷ big 6 t.value)) (o + 8)
     unfolding big
-    identity-done k =
+    identity_done k =
         rw (
           identity_is s at,
           num_some (limited 15 s at) r is (not-false r.ok h),

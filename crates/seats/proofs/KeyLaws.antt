@@ -22,26 +22,26 @@ abbrev pub Mixing : List ℕ → ℕ → ℕ → ℕ → ℕ
 Mixing w k at x = mixed_from w ((k - at + 7) / 8) at x
 
 module _ (w : List ℕ) where
-  pub mixed-short : length w < 8 → mixed w ≡ 0
+  pub mixed_short : length w < 8 → mixed w ≡ 0
   unfolding mixed
-  mixed-short h = rw (lt-ltb (length w) 8 h)
+  mixed_short h = rw (lt-ltb (length w) 8 h)
 
   module _ (k : ℕ) (long : k + 8 ≡ length w) where
-    pub mixed-start : (x : ℕ) → x ≡ u64_at w k → mixed w ≡ Mixing w k 8 x
+    pub mixed_start : (x : ℕ) → x ≡ u64_at w k → mixed w ≡ Mixing w k 8 x
     unfolding mixed
-    mixed-start x e =
+    mixed_start x e =
         let z : length w - 8 ≡ k = omega arith in
         rw (le-ltb (length w) 8 (omega arith), z, e)
 
-    pub mixed-more : (at x : ℕ) → at < k → Mixing w k at x ≡ Mixing w k (at + 8) (differ x (u64_at w at))
+    pub mixed_more : (at x : ℕ) → at < k → Mixing w k at x ≡ Mixing w k (at + 8) (differ x (u64_at w at))
     unfolding mixed_from
-    mixed-more at x h =
+    mixed_more at x h =
         let n : (k - at + 7) / 8 ≡ suc ((k - (at + 8) + 7) / 8) = omega arith in
         rw n
 
-    pub mixed-end : (at x : ℕ) → k ≤ at → Mixing w k at x ≡ x
+    pub mixed_end : (at x : ℕ) → k ≤ at → Mixing w k at x ≡ x
     unfolding mixed_from
-    mixed-end at x h =
+    mixed_end at x h =
         let n : (k - at + 7) / 8 ≡ 0 = omega arith in
         rw n
 

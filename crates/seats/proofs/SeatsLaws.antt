@@ -10,7 +10,7 @@ use borrow.Author.Tests.{ltb-true, le-ltb, eq-eqb, ne_eqb}
 use lib.Dec.{ltb, eqb}
 use lib.ListN.{length}
 use Rattle.base.specs.Bytes.{u32_at, part}
-use Rattle.sids.proofs.SidLaws.{sid-end-short}
+use Rattle.sids.proofs.SidLaws.{sid_end_short}
 use Rattle.sids.specs.Sid.{sid_end}
 use Rattle.records.specs.Crowd.{Member, plain, shown, members_at, crowd_at}
 use Rattle.seats.specs.Seats.{allow_word, deny_word, no_seat, onward, first_seat, seat_at, seated, from_seat}
@@ -19,38 +19,38 @@ use Rattle.seats.specs.declared.seats.Seat.{Seat}
 -- ---- a seat
 
 module _ (s : List ℕ) (at : ℕ) where
-  pub first-seat-none : sid_end s at ≡ 0 → first_seat s at ≡ no_seat
+  pub first_seat_none : sid_end s at ≡ 0 → first_seat s at ≡ no_seat
   unfolding first_seat
-  first-seat-none z = rw (eq-eqb (sid_end s at) 0 z)
+  first_seat_none z = rw (eq-eqb (sid_end s at) 0 z)
 
-  pub seat-at-none : (attrs : Bool) → sid_end s at ≡ 0 → seat_at attrs s at ≡ no_seat
+  pub seat_at_none : (attrs : Bool) → sid_end s at ≡ 0 → seat_at attrs s at ≡ no_seat
   unfolding seat_at
-  seat-at-none attrs z = rw (eq-eqb (sid_end s at) 0 z)
+  seat_at_none attrs z = rw (eq-eqb (sid_end s at) 0 z)
 
 module _ (s : List ℕ) (at e : ℕ) (ends : e ≡ sid_end s at) (some : e ≡ 0 → ⊥) where
-  pub first-seat-some : (n : ℕ) → n ≡ onward s e 4 →
+  pub first_seat_some : (n : ℕ) → n ≡ onward s e 4 →
       first_seat s at ≡ record { from = at; to = e; next = n; allows = true; denies = true }
   unfolding first_seat
-  first-seat-some n p = rw (← ends, ne_eqb e 0 some, p)
+  first_seat_some n p = rw (← ends, ne_eqb e 0 some, p)
 
-  pub seat-at-plain : e ≤ length s → seat_at false s at ≡ record { from = at; to = e; next = e; allows = true; denies = true }
+  pub seat_at_plain : e ≤ length s → seat_at false s at ≡ record { from = at; to = e; next = e; allows = true; denies = true }
   unfolding seat_at
-  seat-at-plain l =
+  seat_at_plain l =
       let h : length s < e + 0 → ⊥ = λ k. omega arith in
       let z : e + 0 ≡ e = omega arith in
       rw (← ends, ne_eqb e 0 some, z, le-ltb (length s) e l)
 
-  pub seat-at-word : (n : ℕ) (x y : Bool) → n ≡ onward s e 4 → x ≡ allow_word (u32_at s e) → y ≡ deny_word (u32_at s e) →
+  pub seat_at_word : (n : ℕ) (x y : Bool) → n ≡ onward s e 4 → x ≡ allow_word (u32_at s e) → y ≡ deny_word (u32_at s e) →
       seat_at true s at ≡ record { from = at; to = e; next = n; allows = x; denies = y }
   unfolding seat_at
-  seat-at-word n x y p q r = rw (← ends, ne_eqb e 0 some, p, q, r)
+  seat_at_word n x y p q r = rw (← ends, ne_eqb e 0 some, p, q, r)
 
 -- ---- the members after a place past the end
 
 members_out : (attrs : Bool) (s : List ℕ) (n at : ℕ) → length s < at + 8 → members_at attrs s n at ≡ []
 unfolding members_at
 members_out attrs s zero at h = refl
-members_out attrs s (suc n) at h = rw (eq-eqb (sid_end s at) 0 (sid-end-short s at h))
+members_out attrs s (suc n) at h = rw (eq-eqb (sid_end s at) 0 (sid_end_short s at h))
 
 members_onward : (attrs : Bool) (s : List ℕ) (n e w : ℕ) → members_at attrs s n (onward s e w) ≡ members_at attrs s n (e + w)
 members_onward attrs s n e w = go (ltb (length s) (e + w)) refl
@@ -93,13 +93,13 @@ members_next false s n at = go (eqb (sid_end s at) 0) refl
 -- ---- one turn of a search
 
 module _ (attrs : Bool) (s : List ℕ) (x : Seat) where
-  pub seats-none : (n : ℕ) → x.to ≡ 0 → from_seat attrs s n x ≡ []
-  seats-none n z = rw (eq-eqb x.to 0 z)
+  pub seats_none : (n : ℕ) → x.to ≡ 0 → from_seat attrs s n x ≡ []
+  seats_none n z = rw (eq-eqb x.to 0 z)
 
-  pub seats-last : (n : ℕ) → (x.to ≡ 0 → ⊥) → n ≡ 0 → from_seat attrs s n x ≡ seated s x ∷ []
+  pub seats_last : (n : ℕ) → (x.to ≡ 0 → ⊥) → n ≡ 0 → from_seat attrs s n x ≡ seated s x ∷ []
   unfolding members_at
-  seats-last n k z = rw (ne_eqb x.to 0 k, z)
+  seats_last n k z = rw (ne_eqb x.to 0 k, z)
 
-  pub seats-more : (n less : ℕ) (y : Seat) → (x.to ≡ 0 → ⊥) → n ≡ suc less → y ≡ seat_at attrs s x.next →
+  pub seats_more : (n less : ℕ) (y : Seat) → (x.to ≡ 0 → ⊥) → n ≡ suc less → y ≡ seat_at attrs s x.next →
       from_seat attrs s n x ≡ seated s x ∷ from_seat attrs s less y
-  seats-more n less y k z e = rw (ne_eqb x.to 0 k, z, e) (ap (λ (l : List Member). seated s x ∷ l) (members_next attrs s less x.next))
+  seats_more n less y k z e = rw (ne_eqb x.to 0 k, z, e) (ap (λ (l : List Member). seated s x ∷ l) (members_next attrs s less x.next))

@@ -1,5 +1,5 @@
 -- A flat listing read in place, seat by seat: what the search through a token sees. Nothing here decides an answer; SeatsLaws shows that
--- the seats are the members of `crowdAt`.
+-- the seats are the members of `crowd_at`.
 use Rattle.std.specs.Prelude.{ℕ, ◌+◌, ◌≤◌, List, [], ◌∷◌, Bool, true, false, cond, not, ◌&&◌, length, ltb, eqb}
 use Rattle.base.specs.Bytes.{u32_at, part}
 use Rattle.base.specs.Bits.{has}

@@ -1,7 +1,7 @@
 -- Laws of one identity at a place. For `sid_end`, `is_sid` and their callers.
--- In order: where the SID at a place ends, by each test (sid-end-short, -other, -many, -cut, -whole); what stands where one does (SidAt,
--- sid-at, sid-end-bounds); bytes that are exactly one SID (is-sid-.., Sid, sid-shape, sid-of-shape); a SID by its place and by its bytes
--- (sid-of-part, sid-end-of-part, sid-end-local). Worked examples are in Cases. Assumes nothing.
+-- In order: where the SID at a place ends, by each test (sid_end_short, -other, -many, -cut, -whole); what stands where one does (SidAt,
+-- sid_at, sid_end_bounds); bytes that are exactly one SID (is-sid-.., Sid, sid_shape, sid_of_shape); a SID by its place and by its bytes
+-- (sid_of_part, sid_end_of_part, sid_end_local). Worked examples are in Cases. Assumes nothing.
 use Prim.Native.Nat.{ℕ, ◌+◌, ◌-◌, ◌*◌, ◌<◌, ◌≤◌}
 use mathlib.Core.Path.{◌≡◌, refl, sym, ap, ◌∙◌}
 use mathlib.Core.List.{List, ◌++◌}
@@ -18,22 +18,22 @@ use Rattle.base.proofs.PartLaws.{byte_of_part}
 -- ---- where the SID at a place ends, by each test
 
 module _ (s : List ℕ) (at : ℕ) where
-  pub sid-end-short : length s < at + 8 → sid_end s at ≡ 0
+  pub sid_end_short : length s < at + 8 → sid_end s at ≡ 0
   unfolding sid_end
-  sid-end-short h = rw (lt-ltb (length s) (at + 8) h)
+  sid_end_short h = rw (lt-ltb (length s) (at + 8) h)
 
-  pub sid-end-other : at + 8 ≤ length s → (byte_at s at ≡ 1 → ⊥) → sid_end s at ≡ 0
+  pub sid_end_other : at + 8 ≤ length s → (byte_at s at ≡ 1 → ⊥) → sid_end s at ≡ 0
   unfolding sid_end
-  sid-end-other f h = rw (le-ltb (length s) (at + 8) f, ne_eqb (byte_at s at) 1 h)
+  sid_end_other f h = rw (le-ltb (length s) (at + 8) f, ne_eqb (byte_at s at) 1 h)
 
-  pub sid-end-many : at + 8 ≤ length s → byte_at s at ≡ 1 → 15 < byte_at s (at + 1) → sid_end s at ≡ 0
+  pub sid_end_many : at + 8 ≤ length s → byte_at s at ≡ 1 → 15 < byte_at s (at + 1) → sid_end s at ≡ 0
   unfolding sid_end
-  sid-end-many f o h = rw (le-ltb (length s) (at + 8) f, eq-eqb (byte_at s at) 1 o, lt-ltb 15 (byte_at s (at + 1)) h)
+  sid_end_many f o h = rw (le-ltb (length s) (at + 8) f, eq-eqb (byte_at s at) 1 o, lt-ltb 15 (byte_at s (at + 1)) h)
 
-  pub sid-end-cut : at + 8 ≤ length s → byte_at s at ≡ 1 → byte_at s (at + 1) ≤ 15 → length s < at + 8 + 4 * byte_at s (at + 1) →
+  pub sid_end_cut : at + 8 ≤ length s → byte_at s at ≡ 1 → byte_at s (at + 1) ≤ 15 → length s < at + 8 + 4 * byte_at s (at + 1) →
       sid_end s at ≡ 0
   unfolding sid_end
-  sid-end-cut f o m h =
+  sid_end_cut f o m h =
       rw (
         le-ltb (length s) (at + 8) f,
         eq-eqb (byte_at s at) 1 o,
@@ -41,10 +41,10 @@ module _ (s : List ℕ) (at : ℕ) where
         lt-ltb (length s) (at + 8 + 4 * byte_at s (at + 1)) h,
       )
 
-  pub sid-end-whole : byte_at s at ≡ 1 → byte_at s (at + 1) ≤ 15 → at + 8 + 4 * byte_at s (at + 1) ≤ length s →
+  pub sid_end_whole : byte_at s at ≡ 1 → byte_at s (at + 1) ≤ 15 → at + 8 + 4 * byte_at s (at + 1) ≤ length s →
       sid_end s at ≡ at + 8 + 4 * byte_at s (at + 1)
   unfolding sid_end
-  sid-end-whole o m h =
+  sid_end_whole o m h =
       rw (
         le-ltb (length s) (at + 8) (omega arith),
         eq-eqb (byte_at s at) 1 o,
@@ -69,16 +69,16 @@ sid_at s at h =
 
     go : (t : Bool) → ltb (length s) (at + 8) ≡ t → (u : Bool) → eqb (byte_at s at) 1 ≡ u → (v : Bool) → ltb 15 (byte_at s (at + 1)) ≡ v →
         (w : Bool) → ltb (length s) (at + 8 + 4 * byte_at s (at + 1)) ≡ w → SidAt s at
-    go true e u f v g w i = absurd (h (sid-end-short s at (ltb-true _ _ e)))
-    go false e false f v g w i = absurd (h (sid-end-other s at (ltb-false _ _ e) (eqb-false _ _ f)))
-    go false e true f true g w i = absurd (h (sid-end-many s at (ltb-false _ _ e) (eqb-true _ _ f) (ltb-true _ _ g)))
+    go true e u f v g w i = absurd (h (sid_end_short s at (ltb-true _ _ e)))
+    go false e false f v g w i = absurd (h (sid_end_other s at (ltb-false _ _ e) (eqb-false _ _ f)))
+    go false e true f true g w i = absurd (h (sid_end_many s at (ltb-false _ _ e) (eqb-true _ _ f) (ltb-true _ _ g)))
     go false e true f false g true i =
-        absurd (h (sid-end-cut s at (ltb-false _ _ e) (eqb-true _ _ f) (ltb-false _ _ g) (ltb-true _ _ i)))
+        absurd (h (sid_end_cut s at (ltb-false _ _ e) (eqb-true _ _ f) (ltb-false _ _ g) (ltb-true _ _ i)))
     go false e true f false g false i =
         let o : byte_at s at ≡ 1 = eqb-true _ _ f in
         let m : byte_at s (at + 1) ≤ 15 = ltb-false _ _ g in
         let k : at + 8 + 4 * byte_at s (at + 1) ≤ length s = ltb-false _ _ i in
-        record { one = o; few = m; whole = k; ends = sid-end-whole s at o m k }
+        record { one = o; few = m; whole = k; ends = sid_end_whole s at o m k }
 
 pub sid_end_bounds : (s : List ℕ) (at : ℕ) → (sid_end s at ≡ 0 → ⊥) → (at + 8 ≤ sid_end s at) × (sid_end s at ≤ length s)
 sid_end_bounds s at h = let a : SidAt s at = sid_at s at h in (omega arith, omega arith)
@@ -122,7 +122,7 @@ sid_shape s h =
 pub sid_of_shape : (s : List ℕ) → Sid s → is_sid s ≡ true
 sid_of_shape s a =
     let l : length s ≡ 8 + 4 * byte_at s 1 = a.long in
-    let e : sid_end s 0 ≡ 8 + 4 * byte_at s 1 = sid-end-whole s 0 a.one a.few (omega arith) in
+    let e : sid_end s 0 ≡ 8 + 4 * byte_at s 1 = sid_end_whole s 0 a.one a.few (omega arith) in
     is_sid_of_end s (λ q. omega arith) (omega arith)
 
 pub is_sid_long : (s : List ℕ) → is_sid s ≡ true → 8 ≤ length s
@@ -152,7 +152,7 @@ sid_end_of_part s at e l k h =
     let z : byte_at (part s at e) 0 ≡ byte_at s (at + 0) = byte_of_part s at e 0 (omega arith) in
     let p : byte_at s (at + 0) ≡ byte_at s at = ap (byte_at s) (omega arith) in
     let o : byte_at (part s at e) 1 ≡ byte_at s (at + 1) = byte_of_part s at e 1 (omega arith) in
-    let w : sid_end s at ≡ at + 8 + 4 * byte_at s (at + 1) = sid-end-whole s at (omega arith) (omega arith) (omega arith) in
+    let w : sid_end s at ≡ at + 8 + 4 * byte_at s (at + 1) = sid_end_whole s at (omega arith) (omega arith) (omega arith) in
     omega arith
 
 pub sid_end_local : (p w q : List ℕ) → is_sid w ≡ true → sid_end (p ++ (w ++ q)) (length p) ≡ length p + length w

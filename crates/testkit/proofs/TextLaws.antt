@@ -1,8 +1,8 @@
 -- Laws of words, lines, digits, and bytes in pairs of digits.
--- In order: `after-outside after_same after-other`, words at a place; `next_past next-in line-end line-more line-none`, a line from a place on; `digit_low
--- digit-figure digit-between digit-letter digit-high`, a digit by its range; `byte_high byte_low byte-both`, two
--- digits; `fill_start`, before the first turn of `filled`; `fill-full fill_end
--- fill_done fill-short fill-bad fill_more`, one for each way through a turn.
+-- In order: `after_outside after_same after_other`, words at a place; `next_past next_in_lem line_end line_more line_none`, a line from a place on; `digit_low
+-- digit_figure digit_between digit_letter digit_high`, a digit by its range; `byte_high byte_low byte_both`, two
+-- digits; `fill_start`, before the first turn of `filled`; `fill_full fill_end
+-- fill_done fill_short fill_bad fill_more`, one for each way through a turn.
 -- Assumes nothing.
 use Prim.Native.Nat.{ℕ, suc, ◌+◌, ◌-◌, ◌*◌, ◌≤◌, ◌<◌}
 use mathlib.Core.Path.{◌≡◌, ap}
@@ -17,19 +17,19 @@ use Rattle.base.specs.Bytes.{byte_at, part, same}
 use Rattle.testkit.specs.Text.{no_place, after, line_length, next_line, digit, byte_of, unfilled, good, filled}
 
 module _ (text : List ℕ) (at : ℕ) (words : List ℕ) where
-  pub after-outside : length text < at + length words → after text at words ≡ no_place
+  pub after_outside : length text < at + length words → after text at words ≡ no_place
   unfolding after
-  after-outside h = rw (lt-leb (at + length words) (length text) h)
+  after_outside h = rw (lt-leb (at + length words) (length text) h)
 
   pub after_same :
       at + length words ≤ length text → same (part text at (at + length words)) words ≡ true → after text at words ≡ at + length words
   unfolding after
   after_same h e = rw (le-leb (at + length words) (length text) h, e)
 
-  pub after-other :
+  pub after_other :
       at + length words ≤ length text → same (part text at (at + length words)) words ≡ false → after text at words ≡ no_place
   unfolding after
-  after-other h e = rw (le-leb (at + length words) (length text) h, e)
+  after_other h e = rw (le-leb (at + length words) (length text) h, e)
 
 pub next_past : (s : List ℕ) (at : ℕ) → length s ≤ at → next_line s at ≡ length s
 unfolding next_line
@@ -56,21 +56,21 @@ module _ (b : ℕ) where
   unfolding digit
   digit_low h = rw (lt-ltb b 48 h)
 
-  pub digit-figure : 48 ≤ b → b ≤ 57 → digit b ≡ b - 48
+  pub digit_figure : 48 ≤ b → b ≤ 57 → digit b ≡ b - 48
   unfolding digit
-  digit-figure l h = rw (le-ltb b 48 l, le-leb b 57 h)
+  digit_figure l h = rw (le-ltb b 48 l, le-leb b 57 h)
 
-  pub digit-between : 57 < b → b < 97 → digit b ≡ 16
+  pub digit_between : 57 < b → b < 97 → digit b ≡ 16
   unfolding digit
-  digit-between l h = rw (le-ltb b 48 (omega arith), lt-leb b 57 l, lt-ltb b 97 h)
+  digit_between l h = rw (le-ltb b 48 (omega arith), lt-leb b 57 l, lt-ltb b 97 h)
 
-  pub digit-letter : 97 ≤ b → b ≤ 102 → digit b ≡ b - 87
+  pub digit_letter : 97 ≤ b → b ≤ 102 → digit b ≡ b - 87
   unfolding digit
-  digit-letter l h = rw (le-ltb b 48 (omega arith), lt-leb b 57 (omega arith), le-ltb b 97 l, le-leb b 102 h)
+  digit_letter l h = rw (le-ltb b 48 (omega arith), lt-leb b 57 (omega arith), le-ltb b 97 l, le-leb b 102 h)
 
-  pub digit-high : 102 < b → digit b ≡ 16
+  pub digit_high : 102 < b → digit b ≡ 16
   unfolding digit
-  digit-high h = rw (le-ltb b 48 (omega arith), lt-leb b 57 (omega arith), le-ltb b 97 (omega arith), lt-leb b 102 h)
+  digit_high h = rw (le-ltb b 48 (omega arith), lt-leb b 57 (omega arith), le-ltb b 97 (omega arith), lt-leb b 102 h)
 
 module _ (h l : ℕ) where
   pub byte_high : 15 < digit h → byte_of h l ≡ 256
@@ -81,17 +81,17 @@ module _ (h l : ℕ) where
   unfolding byte_of
   byte_low p q = rw (le-ltb 15 (digit h) p, lt-ltb 15 (digit l) q)
 
-  pub byte-both : digit h ≤ 15 → digit l ≤ 15 → byte_of h l ≡ 16 * digit h + digit l
+  pub byte_both : digit h ≤ 15 → digit l ≤ 15 → byte_of h l ≡ 16 * digit h + digit l
   unfolding byte_of
-  byte-both p q = rw (le-ltb 15 (digit h) p, le-ltb 15 (digit l) q)
+  byte_both p q = rw (le-ltb 15 (digit h) p, le-ltb 15 (digit l) q)
 
 pub fill_start : (text out : List ℕ) (stop : ℕ) → filled text stop (length out) out 0 0 ≡ filled text stop (length out - 0) out 0 0
 fill_start text out stop = let e : length out ≡ length out - 0 = omega arith in ap (λ (k : ℕ). filled text stop k out 0 0) e
 
 module _ (text out : List ℕ) (stop room less n i : ℕ) where
-  pub fill-full : room ≡ 0 → filled text stop room out n i ≡ unfilled out
+  pub fill_full : room ≡ 0 → filled text stop room out n i ≡ unfilled out
   unfolding filled
-  fill-full e = rw e
+  fill_full e = rw e
 
   pub fill_end : room ≡ suc less → length text ≤ i → filled text stop room out n i ≡ unfilled out
   unfolding filled
@@ -101,16 +101,16 @@ module _ (text out : List ℕ) (stop room less n i : ℕ) where
   unfolding filled
   fill_done e h q = rw (e, lt-leb (length text) i h, eq-eqb (byte_at text i) stop q)
 
-  pub fill-short :
+  pub fill_short :
       room ≡ suc less → i < length text → (byte_at text i ≡ stop → ⊥) → length text - i < 2 → filled text stop room out n i ≡ unfilled out
   unfolding filled
-  fill-short e h q l = rw (e, lt-leb (length text) i h, ne_eqb (byte_at text i) stop q, lt-ltb (length text - i) 2 l)
+  fill_short e h q l = rw (e, lt-leb (length text) i h, ne_eqb (byte_at text i) stop q, lt-ltb (length text - i) 2 l)
 
-  pub fill-bad :
+  pub fill_bad :
       room ≡ suc less → i < length text → (byte_at text i ≡ stop → ⊥) → 2 ≤ length text - i
       → 255 < byte_of (byte_at text i) (byte_at text (i + 1)) → filled text stop room out n i ≡ unfilled out
   unfolding filled
-  fill-bad e h q l b =
+  fill_bad e h q l b =
       rw (
         e,
         lt-leb (length text) i h,

@@ -29,7 +29,7 @@ use Rattle.tokens.specs.Answers.{answered}
 use Rattle.tokens.specs.Judging.{judged_of, refused_extent, extent_of, holding, listed_in, room_after}
 use Rattle.tokens.specs.declared.flat.Extent.{Extent}
 use Rattle.tokens.specs.declared.judging.Judged.{Judged}
-use Rattle.tokens.proofs.JudgePeople.{listing-cut}
+use Rattle.tokens.proofs.JudgePeople.{listing_cut}
 
 -- ---- what was unpacked, judged
 
@@ -45,7 +45,7 @@ module _ (s entry exit : List ℕ) (n : ℕ) (bytes : T (are_bytes s)) (room : n
   unfolding judged_of
   judged_go none e u =
       let z : part exit 0 n ≡ [] = part_front exit n ∙ ap (λ (k : ℕ). take k exit) u.0 in
-      rw (z, listing-cut [] (omega arith))
+      rw (z, listing_cut [] (omega arith))
   judged_go (some t end) e u =
       let r = unpacked_room t end entry exit n u room in
       let w : part exit 0 n ≡ listing_of t = part_front exit n ∙ sets_front entry exit (listing_of t) n u.0 u.1 r in
@@ -143,11 +143,11 @@ module _ (s entry exit : List ℕ) (n : ℕ) (j : Judged) (bytes : T (are_bytes 
   status_is : j.status ≡ (judged_of (read_record s)).status
   status_is = ap (λ (x : Judged). x.status) judged_is
 
-  pub judged-unlisted : (j.status ≡ 0 → ⊥) → refused_extent j.status ≡ listed_in (length entry) s
-  judged-unlisted h = rw (fit, status_is) (refused_extent_lem (read_record s) (λ z. h (status_is ∙ z)))
+  pub judged_unlisted : (j.status ≡ 0 → ⊥) → refused_extent j.status ≡ listed_in (length entry) s
+  judged_unlisted h = rw (fit, status_is) (refused_extent_lem (read_record s) (λ z. h (status_is ∙ z)))
 
-  pub judged-listed : j.status ≡ 0 → record { status = 0; length = n; confined_at = j.confined_at } ≡ listed_in (length entry) s
-  judged-listed h =
+  pub judged_listed : j.status ≡ 0 → record { status = 0; length = n; confined_at = j.confined_at } ≡ listed_in (length entry) s
+  judged_listed h =
       rw (fit, judged_is) (taken_extent (read_record s) entry exit n unpacked (sym status_is ∙ h))
 
 -- ---- the listing in its room
@@ -197,16 +197,16 @@ listed_in_lem s entry exit r fit e x h =
 -- ---- the answer within a lent buffer
 
 module _ (s : List ℕ) (r : Extent) (room : List ℕ) (listed : Listed s r room) (n : ℕ) where
-  pub fitted-longer : n < r.length → fitted n (as_listing s) ≡ refusal 11
+  pub fitted_longer : n < r.length → fitted n (as_listing s) ≡ refusal 11
   unfolding fitted
-  fitted-longer h = let k : n < length (as_listing s).bytes = rw listed.long at h in rw (lt-ltb n (length (as_listing s).bytes) k)
+  fitted_longer h = let k : n < length (as_listing s).bytes = rw listed.long at h in rw (lt-ltb n (length (as_listing s).bytes) k)
 
   fitted_within : r.length ≤ n → fitted n (as_listing s) ≡ as_listing s
   unfolding fitted
   fitted_within h = let k : length (as_listing s).bytes ≤ n = rw listed.long at h in rw (le-ltb n (length (as_listing s).bytes) k)
 
-  pub within-answer : r.length ≤ n → record { status = r.status; length = r.length } ≡ answered (fitted n (as_listing s))
-  within-answer h = rw (fitted_within h, listed.status, listed.long)
+  pub within_answer : r.length ≤ n → record { status = r.status; length = r.length } ≡ answered (fitted n (as_listing s))
+  within_answer h = rw (fitted_within h, listed.status, listed.long)
 
-  pub within-bytes : r.length ≤ n → (fitted n (as_listing s)).bytes ≡ part room 0 r.length
-  within-bytes h = ap (λ (x : Conversion). x.bytes) (fitted_within h) ∙ sym listed.bytes ∙ sym (part_front room r.length)
+  pub within_bytes : r.length ≤ n → (fitted n (as_listing s)).bytes ≡ part room 0 r.length
+  within_bytes h = ap (λ (x : Conversion). x.bytes) (fitted_within h) ∙ sym listed.bytes ∙ sym (part_front room r.length)

@@ -24,16 +24,16 @@ use Rattle.tokens.specs.declared.judging.Capabilities.{Capabilities}
 -- ---- an identity and a word of a listing at a place
 
 module _ (s : List ℕ) (at : ℕ) where
-  pub identity-none : sid_end s at ≡ 0 → flat_identity s at ≡ none
+  pub identity_none : sid_end s at ≡ 0 → flat_identity s at ≡ none
   unfolding flat_identity
-  identity-none h = rw (eq-eqb (sid_end s at) 0 h)
+  identity_none h = rw (eq-eqb (sid_end s at) 0 h)
 
-  pub identity-some : (e : ℕ) → e ≡ sid_end s at → (e ≡ 0 → ⊥) → flat_identity s at ≡ some (part s at e) e
+  pub identity_some : (e : ℕ) → e ≡ sid_end s at → (e ≡ 0 → ⊥) → flat_identity s at ≡ some (part s at e) e
   unfolding flat_identity
-  identity-some e h k = rw (sym h, ne_eqb e 0 k)
+  identity_some e h k = rw (sym h, ne_eqb e 0 k)
 
-  pub identity-after : (e : ℕ) → e ≡ sid_end s at → (e ≡ 0 → ⊥) → at + 8 ≤ e
-  identity-after e h k =
+  pub identity_after : (e : ℕ) → e ≡ sid_end s at → (e ≡ 0 → ⊥) → at + 8 ≤ e
+  identity_after e h k =
       let b : (at + 8 ≤ sid_end s at) × (sid_end s at ≤ length s) = sid_end_bounds s at (λ z. k (h ∙ z)) in
       omega arith
 
@@ -54,11 +54,11 @@ pub record Headed (s : List ℕ) (at e n : ℕ) : Type 0 where
   pub count : n ≡ u32_at s e
 
 module _ {s : List ℕ} {at e n : ℕ} (h : Headed s at e n) where
-  pub headed-identity : flat_identity s at ≡ some (part s at e) e
-  headed-identity = identity-some s at e h.is h.found
+  pub headed_identity : flat_identity s at ≡ some (part s at e) e
+  headed_identity = identity_some s at e h.is h.found
 
-  pub headed-word : word s e ≡ some n (e + 4)
-  headed-word = word_some s e h.whole ∙ ap (λ (m : ℕ). some m (e + 4)) (sym h.count)
+  pub headed_word : word s e ≡ some n (e + 4)
+  headed_word = word_some s e h.whole ∙ ap (λ (m : ℕ). some m (e + 4)) (sym h.count)
 
 -- ---- either
 
@@ -76,16 +76,16 @@ or_cons false false c = refl
 
 -- what is told of one more thing, where telling goes on with a step
 module _ {A B : Type 0} (f : List ℕ → ℕ → Read A) (g h : List A → B) (s : List ℕ) (at : ℕ) where
-  pub told-stop : (n : ℕ) → 0 < n → f s at ≡ none → told g (many f n s at) ≡ none
+  pub told_stop : (n : ℕ) → 0 < n → f s at ≡ none → told g (many f n s at) ≡ none
   unfolding many
-  told-stop zero p e = absurd (omega arith)
-  told-stop (suc n) p e = rw e
+  told_stop zero p e = absurd (omega arith)
+  told_stop (suc n) p e = rw e
 
-  pub told-step : (n : ℕ) (a : A) (b : ℕ) → 0 < n → f s at ≡ some a b → ((l : List A) → g (a ∷ l) ≡ h l) →
+  pub told_step : (n : ℕ) (a : A) (b : ℕ) → 0 < n → f s at ≡ some a b → ((l : List A) → g (a ∷ l) ≡ h l) →
       told g (many f n s at) ≡ told h (many f (n - 1) s b)
   unfolding many
-  told-step zero a b p e k = absurd (omega arith)
-  told-step (suc n) a b p e k =
+  told_step zero a b p e k = absurd (omega arith)
+  told_step (suc n) a b p e k =
       let x : n ≡ suc n - 1 = omega arith in
       rw e (last (many f n s b) ∙ ap (λ (m : ℕ). told h (many f m s b)) x)
     where
@@ -97,16 +97,16 @@ module _ {A B : Type 0} (f : List ℕ → ℕ → Read A) (g h : List A → B) (
 
 group_stop : (s : List ℕ) (at : ℕ) → sid_end s at ≡ 0 → group_at flat_reader s at ≡ none
 unfolding group_at
-group_stop s at h = rw (identity-none s at h)
+group_stop s at h = rw (identity_none s at h)
 
 group_cut : (s : List ℕ) (at e : ℕ) → e ≡ sid_end s at → (e ≡ 0 → ⊥) → length s < e + 4 → group_at flat_reader s at ≡ none
 unfolding group_at
-group_cut s at e h k l = rw (identity-some s at e h k, word_none s e l)
+group_cut s at e h k l = rw (identity_some s at e h k, word_none s e l)
 
 group_step : (s : List ℕ) (at e : ℕ) → e ≡ sid_end s at → (e ≡ 0 → ⊥) → e + 4 ≤ length s →
     group_at flat_reader s at ≡ some (record { sid = part s at e; attributes = u32_at s e }) (e + 4)
 unfolding group_at
-group_step s at e h k l = rw (identity-some s at e h k, word_some s e l)
+group_step s at e h k l = rw (identity_some s at e h k, word_some s e l)
 
 -- what the walk has met, or what is still to come breaks a rule
 abbrev pub groups_on : Bool → List Group → Bool
@@ -118,19 +118,19 @@ module _ (s : List ℕ) (at n : ℕ) (b : Bool) where
   groups_none h = rw (h, or-false b)
 
   module _ (more : 0 < n) where
-    pub groups-stop : sid_end s at ≡ 0 → told (groups_on b) (many (group_at flat_reader) n s at) ≡ none
-    groups-stop h = told-stop (group_at flat_reader) (groups_on b) (groups_on b) s at n more (group_stop s at h)
+    pub groups_stop : sid_end s at ≡ 0 → told (groups_on b) (many (group_at flat_reader) n s at) ≡ none
+    groups_stop h = told_stop (group_at flat_reader) (groups_on b) (groups_on b) s at n more (group_stop s at h)
 
     module _ (e : ℕ) (is : e ≡ sid_end s at) (found : e ≡ 0 → ⊥) where
-      pub groups-cut : length s < e + 4 → told (groups_on b) (many (group_at flat_reader) n s at) ≡ none
-      groups-cut h = told-stop (group_at flat_reader) (groups_on b) (groups_on b) s at n more (group_cut s at e is found h)
+      pub groups_cut : length s < e + 4 → told (groups_on b) (many (group_at flat_reader) n s at) ≡ none
+      groups_cut h = told_stop (group_at flat_reader) (groups_on b) (groups_on b) s at n more (group_cut s at e is found h)
 
-      pub groups-step : e + 4 ≤ length s →
+      pub groups_step : e + 4 ≤ length s →
           told (groups_on b) (many (group_at flat_reader) n s at)
           ≡ told (groups_on (b || virtual (part s at e))) (many (group_at flat_reader) (n - 1) s (e + 4))
       unfolding virtual_group
-      groups-step h =
-          told-step (group_at flat_reader) (groups_on b) (groups_on (b || virtual (part s at e))) s at n _ (e + 4) more
+      groups_step h =
+          told_step (group_at flat_reader) (groups_on b) (groups_on (b || virtual (part s at e))) s at n _ (e + 4) more
           (group_step s at e is found h)
           (λ l. or_cons b (virtual (part s at e)) (virtual_group l))
 
@@ -140,22 +140,22 @@ abbrev pub seen_on : Bool → Bool → List (List ℕ) → Seen
 seen_on b l ws = record { breaks = b || virtual_in ws; listed = l || lists all_restricted ws }
 
 module _ (s : List ℕ) (at n : ℕ) (b l : Bool) where
-  pub capabilities-none : n ≡ 0 → told (seen_on b l) (many flat_identity n s at) ≡ some (record { breaks = b; listed = l }) at
+  pub capabilities_none : n ≡ 0 → told (seen_on b l) (many flat_identity n s at) ≡ some (record { breaks = b; listed = l }) at
   unfolding many virtual_in lists
-  capabilities-none h = rw (h, or-false b, or-false l)
+  capabilities_none h = rw (h, or-false b, or-false l)
 
   module _ (more : 0 < n) where
-    pub capabilities-stop : sid_end s at ≡ 0 → told (seen_on b l) (many flat_identity n s at) ≡ none
-    capabilities-stop h = told-stop flat_identity (seen_on b l) (seen_on b l) s at n more (identity-none s at h)
+    pub capabilities_stop : sid_end s at ≡ 0 → told (seen_on b l) (many flat_identity n s at) ≡ none
+    capabilities_stop h = told_stop flat_identity (seen_on b l) (seen_on b l) s at n more (identity_none s at h)
 
-    pub capabilities-step : (e : ℕ) → e ≡ sid_end s at → (e ≡ 0 → ⊥) →
+    pub capabilities_step : (e : ℕ) → e ≡ sid_end s at → (e ≡ 0 → ⊥) →
         told (seen_on b l) (many flat_identity n s at)
         ≡ told (seen_on (b || virtual (part s at e)) (l || same (part s at e) all_restricted)) (many flat_identity (n - 1) s e)
     unfolding virtual_in lists
-    capabilities-step e is found =
+    capabilities_step e is found =
         let w = part s at e in
-        told-step flat_identity (seen_on b l) (seen_on (b || virtual w) (l || same w all_restricted)) s at n w e more
-        (identity-some s at e is found)
+        told_step flat_identity (seen_on b l) (seen_on (b || virtual w) (l || same w all_restricted)) s at n w e more
+        (identity_some s at e is found)
         (λ ws. ap₂ (λ (x y : Bool). record { breaks = x; listed = y }) (or_cons b (virtual w) (virtual_in ws))
         (or_cons l (same w all_restricted) (lists all_restricted ws)))
 
@@ -179,12 +179,12 @@ module _ {A : Type 0} (f : A → Bool) (q : Read A) (r : Walk) (is : walked r �
   pub walk_none : not r.ok ≡ true → q ≡ none
   walk_none h = told_none f q (sym is ∙ rw (not-true r.ok h))
 
-  pub walk-some : not r.ok ≡ false → Told f q r.breaks r.next
-  walk-some h = told_some f q r.breaks r.next (sym is ∙ rw (not-false r.ok h))
+  pub walk_some : not r.ok ≡ false → Told f q r.breaks r.next
+  walk_some h = told_some f q r.breaks r.next (sym is ∙ rw (not-false r.ok h))
 
 module _ (q : Read (List (List ℕ))) (r : Capabilities) (is : seen_by r ≡ told seen_of q) where
   pub seen_none : not r.ok ≡ true → q ≡ none
   seen_none h = told_none seen_of q (sym is ∙ rw (not-true r.ok h))
 
-  pub seen-some : not r.ok ≡ false → Told seen_of q (record { breaks = r.breaks; listed = r.listed }) r.next
-  seen-some h = told_some seen_of q (record { breaks = r.breaks; listed = r.listed }) r.next (sym is ∙ rw (not-false r.ok h))
+  pub seen_some : not r.ok ≡ false → Told seen_of q (record { breaks = r.breaks; listed = r.listed }) r.next
+  seen_some h = told_some seen_of q (record { breaks = r.breaks; listed = r.listed }) r.next (sym is ∙ rw (not-false r.ok h))

@@ -19,62 +19,62 @@ use Rattle.records.specs.Fields.{many, each, group_at, group_bytes, confinement_
 use Rattle.records.specs.FlatListing.{double_word, flat_identity, flat_reader, flat_writer, read_listing}
 use Rattle.records.specs.TokenRules.{virtual_group, virtual_in, lists, all_restricted, keeps, exempt_alone, virtual_stands, unrestricted}
 use Rattle.records.specs.Crowd.{confined_place}
-use Rattle.records.proofs.FormatLaws.{many-form}
-use Rattle.records.proofs.FieldsLaws.{group-kept}
+use Rattle.records.proofs.FormatLaws.{many_form}
+use Rattle.records.proofs.FieldsLaws.{group_kept}
 use Rattle.records.proofs.ListingLaws.{flat_format}
 use Rattle.tokens.specs.Judging.{judged_of, told, walked, seen_by, Seen, seen_of, confinement_breaks, rest_breaks}
 use Rattle.tokens.specs.declared.judging.Walk.{Walk}
 use Rattle.tokens.specs.declared.judging.Capabilities.{Capabilities}
-use Rattle.tokens.proofs.JudgeLaws.{identity-none, identity-some, identity-after, word_none, word_some, Headed, headed-identity}
-use Rattle.tokens.proofs.JudgeLaws.{headed-word, Told, walk_none, walk-some, seen_none, seen-some}
+use Rattle.tokens.proofs.JudgeLaws.{identity_none, identity_some, identity_after, word_none, word_some, Headed, headed_identity}
+use Rattle.tokens.proofs.JudgeLaws.{headed_word, Told, walk_none, walk_some, seen_none, seen_some}
 
 -- ---- the confinement
 
 module _ (s : List ℕ) (at : ℕ) where
-  pub confinement-stop : sid_end s at ≡ 0 → told confinement_breaks (confinement_at flat_reader true s at) ≡ none
+  pub confinement_stop : sid_end s at ≡ 0 → told confinement_breaks (confinement_at flat_reader true s at) ≡ none
   unfolding confinement_at
-  confinement-stop h = rw (identity-none s at h)
+  confinement_stop h = rw (identity_none s at h)
 
-  pub confinement-cut : (e : ℕ) → e ≡ sid_end s at → (e ≡ 0 → ⊥) → length s < e + 4 →
+  pub confinement_cut : (e : ℕ) → e ≡ sid_end s at → (e ≡ 0 → ⊥) → length s < e + 4 →
       told confinement_breaks (confinement_at flat_reader true s at) ≡ none
   unfolding confinement_at
-  confinement-cut e is found h = rw (identity-some s at e is found, word_none s e h)
+  confinement_cut e is found h = rw (identity_some s at e is found, word_none s e h)
 
 module _ {s : List ℕ} {at e n : ℕ} (h : Headed s at e n) where
-  pub confinement-many : 64 < n → told confinement_breaks (confinement_at flat_reader true s at) ≡ none
+  pub confinement_many : 64 < n → told confinement_breaks (confinement_at flat_reader true s at) ≡ none
   unfolding confinement_at
-  confinement-many k = rw (headed-identity h, headed-word h, lt-leb n 64 k)
+  confinement_many k = rw (headed_identity h, headed_word h, lt-leb n 64 k)
 
   module _ (few : n ≤ 64) (r : Capabilities) (walk : seen_by r ≡ told seen_of (many flat_identity n s (e + 4))) where
-    pub confinement-lost : not r.ok ≡ true → told confinement_breaks (confinement_at flat_reader true s at) ≡ none
+    pub confinement_lost : not r.ok ≡ true → told confinement_breaks (confinement_at flat_reader true s at) ≡ none
     unfolding confinement_at
-    confinement-lost k =
-        rw (headed-identity h, headed-word h, le-leb n 64 few, seen_none (many flat_identity n s (e + 4)) r walk k)
+    confinement_lost k =
+        rw (headed_identity h, headed_word h, le-leb n 64 few, seen_none (many flat_identity n s (e + 4)) r walk k)
 
-    pub confinement-done : not r.ok ≡ false →
+    pub confinement_done : not r.ok ≡ false →
         told confinement_breaks (confinement_at flat_reader true s at)
         ≡ some (virtual (part s at e) || r.breaks || not r.listed) r.next
     unfolding confinement_at
-    confinement-done k =
-        let t = seen-some (many flat_identity n s (e + 4)) r walk k in
+    confinement_done k =
+        let t = seen_some (many flat_identity n s (e + 4)) r walk k in
         let b : virtual_in t.a ≡ r.breaks = ap (λ (x : Seen). x.breaks) t.tells in
         let l : lists all_restricted t.a ≡ r.listed = ap (λ (x : Seen). x.listed) t.tells in
-        rw (headed-identity h, headed-word h, le-leb n 64 few, t.read, b, l)
+        rw (headed_identity h, headed_word h, le-leb n 64 few, t.read, b, l)
 
 -- what follows the groups
 module _ (flags : ℕ) (s : List ℕ) (at : ℕ) where
-  pub rest-free : and flags 1 ≡ 0 → told (rest_breaks flags) (confinement_at flat_reader (confined flags) s at) ≡ some (exempt flags) at
+  pub rest_free : and flags 1 ≡ 0 → told (rest_breaks flags) (confinement_at flat_reader (confined flags) s at) ≡ some (exempt flags) at
   unfolding confinement_at
-  rest-free h = rw (eq-eqb (and flags 1) 0 h)
+  rest_free h = rw (eq-eqb (and flags 1) 0 h)
 
-  pub rest-confined : (and flags 1 ≡ 0 → ⊥) →
+  pub rest_confined : (and flags 1 ≡ 0 → ⊥) →
       told (rest_breaks flags) (confinement_at flat_reader (confined flags) s at) ≡ told confinement_breaks (confinement_at flat_reader true s at)
-  rest-confined h = rw (ne_eqb (and flags 1) 0 h)
+  rest_confined h = rw (ne_eqb (and flags 1) 0 h)
 
-  pub rest-unconfined : (c : Confined) (e : ℕ) → confinement_at flat_reader (confined flags) s at ≡ some c e → confined flags ≡ false → c
+  pub rest_unconfined : (c : Confined) (e : ℕ) → confinement_at flat_reader (confined flags) s at ≡ some c e → confined flags ≡ false → c
       ≡ unconfined
   unfolding confinement_at
-  rest-unconfined c e h f = let k : some unconfined at ≡ some c e = sym (ap (λ (x : Bool). confinement_at flat_reader x s at) f) ∙ h in cc
+  rest_unconfined c e h f = let k : some unconfined at ≡ some c e = sym (ap (λ (x : Bool). confinement_at flat_reader x s at) f) ∙ h in cc
 
 -- ---- the token rules, as the walk meets them
 
@@ -113,13 +113,13 @@ keeps_is t h = go (confined t.flags) refl
 -- ---- the people
 
 module _ (flags p : ℕ) (s : List ℕ) where
-  pub people-stop : sid_end s 12 ≡ 0 → people_at flat_reader flags p s 12 ≡ none
+  pub people_stop : sid_end s 12 ≡ 0 → people_at flat_reader flags p s 12 ≡ none
   unfolding people_at
-  people-stop h = rw (identity-none s 12 h)
+  people_stop h = rw (identity_none s 12 h)
 
-  pub people-cut : (e : ℕ) → e ≡ sid_end s 12 → (e ≡ 0 → ⊥) → length s < e + 4 → people_at flat_reader flags p s 12 ≡ none
+  pub people_cut : (e : ℕ) → e ≡ sid_end s 12 → (e ≡ 0 → ⊥) → length s < e + 4 → people_at flat_reader flags p s 12 ≡ none
   unfolding people_at
-  people-cut e is found h = rw (identity-some s 12 e is found, word_none s e h)
+  people_cut e is found h = rw (identity_some s 12 e is found, word_none s e h)
 
 -- the user and at most 256 groups, of which a walk tells
 pub record Grouped (s : List ℕ) (e n : ℕ) (r : Walk) : Type 0 where
@@ -134,30 +134,30 @@ pub record Peopled (flags : ℕ) (s : List ℕ) (e n : ℕ) (r w : Walk) : Type 
   pub rest : walked w ≡ told (rest_breaks flags) (confinement_at flat_reader (confined flags) s r.next)
 
 module _ (flags p : ℕ) {s : List ℕ} {e n : ℕ} where
-  pub people-many : Headed s 12 e n → 256 < n → people_at flat_reader flags p s 12 ≡ none
+  pub people_many : Headed s 12 e n → 256 < n → people_at flat_reader flags p s 12 ≡ none
   unfolding people_at
-  people-many h k = rw (headed-identity h, headed-word h, lt-leb n 256 k)
+  people_many h k = rw (headed_identity h, headed_word h, lt-leb n 256 k)
 
-  pub people-lost : {r : Walk} → Grouped s e n r → not r.ok ≡ true → people_at flat_reader flags p s 12 ≡ none
+  pub people_lost : {r : Walk} → Grouped s e n r → not r.ok ≡ true → people_at flat_reader flags p s 12 ≡ none
   unfolding people_at
-  people-lost {r} g k =
+  people_lost {r} g k =
       rw (
-        headed-identity g.head,
-        headed-word g.head,
+        headed_identity g.head,
+        headed_word g.head,
         le-leb n 256 g.few,
         walk_none virtual_group (many (group_at flat_reader) n s (e + 4)) r g.walk k,
       )
 
 module _ (flags p : ℕ) {s : List ℕ} {e n : ℕ} {r w : Walk} (g : Peopled flags s e n r w) where
   groups : Told virtual_group (many (group_at flat_reader) n s (e + 4)) r.breaks r.next
-  groups = walk-some virtual_group (many (group_at flat_reader) n s (e + 4)) r g.groups.walk g.grouped
+  groups = walk_some virtual_group (many (group_at flat_reader) n s (e + 4)) r g.groups.walk g.grouped
 
-  pub people-restless : not w.ok ≡ true → people_at flat_reader flags p s 12 ≡ none
+  pub people_restless : not w.ok ≡ true → people_at flat_reader flags p s 12 ≡ none
   unfolding people_at
-  people-restless h =
+  people_restless h =
       rw (
-        headed-identity g.groups.head,
-        headed-word g.groups.head,
+        headed_identity g.groups.head,
+        headed_word g.groups.head,
         le-leb n 256 g.groups.few,
         groups.read,
         walk_none (rest_breaks flags) (confinement_at flat_reader (confined flags) s r.next) w g.rest h,
@@ -165,7 +165,7 @@ module _ (flags p : ℕ) {s : List ℕ} {e n : ℕ} {r w : Walk} (g : Peopled fl
 
   module _ (all : not w.ok ≡ false) where
     confinement : Told (rest_breaks flags) (confinement_at flat_reader (confined flags) s r.next) w.breaks w.next
-    confinement = walk-some (rest_breaks flags) (confinement_at flat_reader (confined flags) s r.next) w g.rest all
+    confinement = walk_some (rest_breaks flags) (confinement_at flat_reader (confined flags) s r.next) w g.rest all
 
     token : Token
     token = record {
@@ -180,8 +180,8 @@ module _ (flags p : ℕ) {s : List ℕ} {e n : ℕ} {r w : Walk} (g : Peopled fl
     unfolding people_at token
     people_done =
         rw (
-          headed-identity g.groups.head,
-          headed-word g.groups.head,
+          headed_identity g.groups.head,
+          headed_word g.groups.head,
           le-leb n 256 g.groups.few,
           groups.read,
           confinement.read,
@@ -190,7 +190,7 @@ module _ (flags p : ℕ) {s : List ℕ} {e n : ℕ} {r w : Walk} (g : Peopled fl
     token_keeps : keeps token ≡ not (virtual (part s 12 e) || r.breaks || w.breaks)
     unfolding token
     token_keeps =
-        keeps_is token (rest-unconfined flags s r.next confinement.a w.next confinement.read)
+        keeps_is token (rest_unconfined flags s r.next confinement.a w.next confinement.read)
         ∙ rw (groups.tells, confinement.tells)
 
     token_place : T (are_bytes s) → confined_place token ≡ r.next
@@ -198,30 +198,30 @@ module _ (flags p : ℕ) {s : List ℕ} {e n : ℕ} {r w : Walk} (g : Peopled fl
     token_place b =
         let h = g.groups.head in
         let k : e + 4 ≤ length s = h.whole in
-        let f = (many-form (group-kept flat_format) n b k groups.read).0 in
+        let f = (many_form (group_kept flat_format) n b k groups.read).0 in
         let x : length (each (group_bytes flat_writer) groups.a) ≡ r.next - (e + 4) =
         ap length (sym f.bytes) ∙ length_part s (e + 4) r.next f.past f.inside
         in
-        let a : 12 + 8 ≤ e = identity-after s 12 e h.is h.found in
+        let a : 12 + 8 ≤ e = identity_after s 12 e h.is h.found in
         let y : length (part s 12 e) ≡ e - 12 = length_part s 12 e (omega arith) (omega arith) in
         let l : e + 4 ≤ r.next = f.past in
         omega arith
 
-    pub people-longer : (w.next ≡ length s → ⊥) →
+    pub people_longer : (w.next ≡ length s → ⊥) →
         judged_of (ended s (people_at flat_reader flags p s 12)) ≡ record { status = 3; confined_at = 0 }
     unfolding judged_of
-    people-longer h = rw (people_done, ne_eqb w.next (length s) h)
+    people_longer h = rw (people_done, ne_eqb w.next (length s) h)
 
     module _ (ends : w.next ≡ length s) where
-      pub people-broken : virtual (part s 12 e) || r.breaks || w.breaks ≡ true →
+      pub people_broken : virtual (part s 12 e) || r.breaks || w.breaks ≡ true →
           judged_of (ended s (people_at flat_reader flags p s 12)) ≡ record { status = 4; confined_at = 0 }
       unfolding judged_of
-      people-broken h = rw (people_done, eq-eqb w.next (length s) ends, token_keeps, h)
+      people_broken h = rw (people_done, eq-eqb w.next (length s) ends, token_keeps, h)
 
-      pub people-kept : T (are_bytes s) → virtual (part s 12 e) || r.breaks || w.breaks ≡ false →
+      pub people_kept : T (are_bytes s) → virtual (part s 12 e) || r.breaks || w.breaks ≡ false →
           judged_of (ended s (people_at flat_reader flags p s 12)) ≡ record { status = 0; confined_at = r.next }
       unfolding judged_of
-      people-kept b h = rw (people_done, eq-eqb w.next (length s) ends, token_keeps, h, token_place b)
+      people_kept b h = rw (people_done, eq-eqb w.next (length s) ends, token_keeps, h, token_place b)
 
 -- ---- the whole listing
 
@@ -234,9 +234,9 @@ unfolding double_word
 double_word_some s at h = rw (le-ltb (length s) (at + 8) h)
 
 module _ (s : List ℕ) where
-  pub listing-cut : length s < 12 → read_listing s ≡ none
+  pub listing_cut : length s < 12 → read_listing s ≡ none
   unfolding read_listing fields_at
-  listing-cut h = go (ltb (length s) 4) refl
+  listing_cut h = go (ltb (length s) 4) refl
     where
       after : (b : Bool) → ended {A = Token} s (only b none) ≡ none
       after true = refl
@@ -247,10 +247,10 @@ module _ (s : List ℕ) where
       go false e = rw (word_some s 0 (ltb-false (length s) 4 e), double_word_none s 4 h) (after (leb (u32_at s 0) 3))
 
   module _ (h : 12 ≤ length s) where
-    pub listing-flags : 3 < u32_at s 0 → read_listing s ≡ none
+    pub listing_flags : 3 < u32_at s 0 → read_listing s ≡ none
     unfolding read_listing fields_at
-    listing-flags k = rw (word_some s 0 (omega arith), lt-leb (u32_at s 0) 3 k)
+    listing_flags k = rw (word_some s 0 (omega arith), lt-leb (u32_at s 0) 3 k)
 
-    pub listing-people : u32_at s 0 ≤ 3 → read_listing s ≡ ended s (people_at flat_reader (u32_at s 0) (u32_at s 4 + 4294967296 * u32_at s 8) s 12)
+    pub listing_people : u32_at s 0 ≤ 3 → read_listing s ≡ ended s (people_at flat_reader (u32_at s 0) (u32_at s 4 + 4294967296 * u32_at s 8) s 12)
     unfolding read_listing fields_at
-    listing-people k = rw (word_some s 0 (omega arith), le-leb (u32_at s 0) 3 k, double_word_some s 4 h)
+    listing_people k = rw (word_some s 0 (omega arith), le-leb (u32_at s 0) 3 k, double_word_some s 4 h)

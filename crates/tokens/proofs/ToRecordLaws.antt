@@ -14,7 +14,7 @@ use Rattle.records.specs.TokenRecord.{record_of}
 use Rattle.records.specs.Converters.{as_record, fitted, refusal, full_result}
 use Rattle.records.specs.Packing.{record_bytes, Packable}
 use Rattle.records.proofs.RoundTrip.{listing_form, converted_kept}
-use Rattle.records.proofs.PackedLaws.{packed-listing, packed_short, packed_twice, packable-listing}
+use Rattle.records.proofs.PackedLaws.{packed_listing, packed_short, packed_twice, packable_listing}
 use Rattle.tokens.specs.Judging.{judged_of}
 use Rattle.tokens.specs.declared.judging.Judged.{Judged}
 use Rattle.tokens.proofs.ConvertLaws.{Taken, judged_taken, judged_refused}
@@ -26,20 +26,20 @@ module _ (s : List ℕ) (j : Judged) (bytes : T (are_bytes s)) (is : j ≡ judge
   taken : j.status ≡ 0 → Taken (read_listing s)
   taken h = judged_taken (read_listing s) (sym status_is ∙ h)
 
-  pub judged-packable : j.status ≡ 0 → Packable s
-  judged-packable h =
+  pub judged_packable : j.status ≡ 0 → Packable s
+  judged_packable h =
       let t = taken h in
       let f = listing_form s t.token t.end bytes t.read in
-      rw f.0 (packable-listing t.token f.1)
+      rw f.0 (packable_listing t.token f.1)
 
-  pub judged-short : j.status ≡ 0 → length (record_bytes s) ≤ 28021
-  judged-short h =
+  pub judged_short : j.status ≡ 0 → length (record_bytes s) ≤ 28021
+  judged_short h =
       let t = taken h in
       let f = listing_form s t.token t.end bytes t.read in
       rw f.0 (packed_short t.token f.1)
 
-  pub judged-twice : j.status ≡ 0 → length (record_bytes s) ≤ 2 * length s
-  judged-twice h =
+  pub judged_twice : j.status ≡ 0 → length (record_bytes s) ≤ 2 * length s
+  judged_twice h =
       let t = taken h in
       let f = listing_form s t.token t.end bytes t.read in
       rw f.0 (packed_twice t.token f.1)
@@ -49,21 +49,21 @@ module _ (s : List ℕ) (j : Judged) (bytes : T (are_bytes s)) (is : j ≡ judge
   record_of_lem h =
       let t = taken h in
       let f = listing_form s t.token t.end bytes t.read in
-      let e : record_bytes s ≡ record_of t.token = ap record_bytes f.0 ∙ packed-listing t.token f.1 in
+      let e : record_bytes s ≡ record_of t.token = ap record_bytes f.0 ∙ packed_listing t.token f.1 in
       converted_kept record_of (read_listing s) t.token t.end t.read t.kept ∙ ap full_result (sym e)
 
-  pub fitted-refused : (room : ℕ) → (j.status ≡ 0 → ⊥) → fitted room (as_record s) ≡ refusal j.status
+  pub fitted_refused : (room : ℕ) → (j.status ≡ 0 → ⊥) → fitted room (as_record s) ≡ refusal j.status
   unfolding fitted as_record
-  fitted-refused room h =
+  fitted_refused room h =
       let r = judged_refused record_of (read_listing s) (λ z. h (status_is ∙ z)) in
       rw (r.0, le-ltb room 0 (omega arith)) (ap refusal (sym status_is))
 
 -- ---- n bytes within a lent buffer
 
 module _ (room n : ℕ) (b : List ℕ) (long : n ≡ length b) where
-  pub fitted-longer : room < n → fitted room (full_result b) ≡ refusal 11
+  pub fitted_longer : room < n → fitted room (full_result b) ≡ refusal 11
   unfolding fitted
-  fitted-longer h = rw (lt-ltb room (length b) (omega arith))
+  fitted_longer h = rw (lt-ltb room (length b) (omega arith))
 
   pub fitted_within : n ≤ room → fitted room (full_result b) ≡ full_result b
   unfolding fitted

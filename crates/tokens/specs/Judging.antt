@@ -1,4 +1,4 @@
--- What the judge of a flat listing answers, and what it keeps on its walk. `judgedOf` is the answer; the rest is for the contracts of
+-- What the judge of a flat listing answers, and what it keeps on its walk. `judged_of` is the answer; the rest is for the contracts of
 -- its parts.
 use Rattle.std.specs.Prelude.{ℕ, List, Bool, cond, not, ◌||◌, length, replicate}
 use Rattle.std.proofs.lemmas.List.Edits.{sets}

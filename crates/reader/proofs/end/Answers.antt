@@ -5,7 +5,7 @@ use mathlib.Core.Path.{sym, ap, ◌∙◌}
 use native.Mathlib.Omega.{arith}
 use Rattle.lists.specs.declared.acl.Ace.{Ace}
 use Rattle.reader.specs.Reading.{end_from}
-use Rattle.reader.proofs.StepLaws.{end_none, end-stop, end_more, end_left}
+use Rattle.reader.proofs.StepLaws.{end_none, end_stop, end_more, end_left}
 use Rattle.reader.proofs.end.Goals as goal
 
 pub loop-k-init : goal.loop-k-init
@@ -19,7 +19,7 @@ returns-then-a-eq0 c =
     let l = c.args.list.now in
     let n = c.u16_at-n.result in
     let e = ap (λ (x : Ace). x.next) c.ace_at-a.ensures.value in
-    sym (c.loop-k.invariant.1 ∙ end_left l n c.loop-k.k c.loop-k.p (omega arith) ∙ end-stop l (n - (c.loop-k.k + 1)) c.loop-k.p (sym e ∙ c.if-a-eq0.true))
+    sym (c.loop-k.invariant.1 ∙ end_left l n c.loop-k.k c.loop-k.p (omega arith) ∙ end_stop l (n - (c.loop-k.k + 1)) c.loop-k.p (sym e ∙ c.if-a-eq0.true))
 
 pub loop-k-preserved : goal.loop-k-preserved
 loop-k-preserved c =

@@ -9,9 +9,9 @@ use lib.Pow.{are_bytes}
 use Rattle.base.proofs.BytesLaws.{bytes_of_lt, part_front}
 use Rattle.access.specs.Status.{Question}
 use Rattle.access.specs.Reported.{report_past}
-use Rattle.access.proofs.FindingsLaws.{past-stopped}
+use Rattle.access.proofs.FindingsLaws.{past_stopped}
 use Rattle.access.proofs.ReportLaws.{lent_refused}
-use Rattle.access.proofs.AnsweringSteps.{listing-held, limits, owner-held, sacl-held, lent-unasked, lent-audited}
+use Rattle.access.proofs.AnsweringSteps.{listing_held, limits, owner_held, sacl_held, lent_unasked, lent_audited}
 use Rattle.access.proofs.answering.answer_in.Goals as goal
 use Rattle.access.proofs.answering.answer_in.Goals.{After-findings_in-f, Start}
 
@@ -35,14 +35,14 @@ returns-then-f-ne0 c =
     let q = asked_of (goal.at.returns-then-f-ne0 c).Start in
     let a = c.args in
     lent_refused a.lent (length a.out.now) c.findings_in-f.result.status (report_past q) a.out.now _ _
-    (past-stopped q c.findings_in-f.result c.findings_in-f.ensures.value c.if-f-ne0.true)
+    (past_stopped q c.findings_in-f.result c.findings_in-f.ensures.value c.if-f-ne0.true)
     c.untraced.ensures.0 c.untraced.ensures.1 refl
 
 pub returns-then-not-is_asked : goal.returns-then-not-is_asked
 returns-then-not-is_asked c =
     let q = asked_of (goal.at.returns-then-not-is_asked c).Start in
     let a = c.args in
-    lent-unasked q c.findings_in-f.result c.findings_in-f.ensures.value c.if-f-ne0.false a.lent (length a.out.now) a.out.now _ _
+    lent_unasked q c.findings_in-f.result c.findings_in-f.ensures.value c.if-f-ne0.false a.lent (length a.out.now) a.out.now _ _
     c.read_off-answer.result c.read_off-answer.ensures
     (sym c.is_asked.ensures ∙ c.if-not-is_asked.true) refl refl refl
 
@@ -53,7 +53,7 @@ pub audited-requires : goal.audited-requires
 audited-requires c =
     let q = asked_of (goal.at.audited-requires c).Start in
     limits q c.findings_in-f.result c.findings_in-f.ensures.value c.if-f-ne0.false (bytes_at (goal.at.audited-requires c).After-findings_in-f) _
-    (listing-held q c.findings_in-f.result c.findings_in-f.ensures.value c.if-f-ne0.false _ _ c.findings_in-f.ensures.room_after.0 (part_front _ c.findings_in-f.result.length))
+    (listing_held q c.findings_in-f.result c.findings_in-f.ensures.value c.if-f-ne0.false _ _ c.findings_in-f.ensures.room_after.0 (part_front _ c.findings_in-f.result.length))
 
 pub shape_of-room : goal.shape_of-room
 shape_of-room c = c.room-1.given
@@ -62,9 +62,9 @@ pub returns : goal.returns
 returns c =
     let q = asked_of (goal.at.returns c).Start in
     let a = c.args in
-    lent-audited q c.findings_in-f.result c.findings_in-f.ensures.value c.if-f-ne0.false a.lent (length a.out.now) a.out.now _ _
+    lent_audited q c.findings_in-f.result c.findings_in-f.ensures.value c.if-f-ne0.false a.lent (length a.out.now) a.out.now _ _
     c.read_off-answer.result c.read_off-answer.ensures
     (bytes_at (goal.at.returns c).After-findings_in-f) _ _ _
-    (listing-held q c.findings_in-f.result c.findings_in-f.ensures.value c.if-f-ne0.false _ _ c.findings_in-f.ensures.room_after.0 (part_front _ c.findings_in-f.result.length))
-    (owner-held q c.findings_in-f.result c.findings_in-f.ensures.value c.if-f-ne0.false _ c.part-owner.ensures)
-    (sacl-held q c.findings_in-f.result c.findings_in-f.ensures.value c.if-f-ne0.false _ c.part-sacl.ensures) c.audited.ensures
+    (listing_held q c.findings_in-f.result c.findings_in-f.ensures.value c.if-f-ne0.false _ _ c.findings_in-f.ensures.room_after.0 (part_front _ c.findings_in-f.result.length))
+    (owner_held q c.findings_in-f.result c.findings_in-f.ensures.value c.if-f-ne0.false _ c.part-owner.ensures)
+    (sacl_held q c.findings_in-f.result c.findings_in-f.ensures.value c.if-f-ne0.false _ c.part-sacl.ensures) c.audited.ensures

@@ -17,17 +17,17 @@ use Rattle.base.proofs.BytesLaws.{part_front}
 use Rattle.tokens.proofs.ConvertLaws.{Listed, listed_in_lem}
 use Rattle.policy.specs.Policy as policy
 use Rattle.access.specs.Status.{self_fits, descriptor_number, policy_number}
-use Rattle.access.proofs.FindingsLaws.{findings-self, findings-descriptor, findings-policy, findings-found}
+use Rattle.access.proofs.FindingsLaws.{findings_self, findings_descriptor, findings_policy, findings_found}
 use Rattle.access.proofs.TokenSteps.{Held, held, token_refused, stopped_room, found_whole, findings_made, held_limits}
 use Rattle.access.proofs.finding.findings_in.Goals as goal
 use Rattle.access.proofs.finding.findings_in.Goals.{After-list_in-listed, After-standing_number-standing, After-verdict_number-verdict, Else-listed-ne0, Else-not-self_fits, Else-verdict-ne0}
 
 -- what was known earlier, as a place of its own
-abbrev up-1 : Else-listed-ne0 → After-list_in-listed
-up-1 c = record { before = c.before.before.before.before.before; type_inv = record { policy = c.shared_slice_known-4-1.given; descriptor = c.shared_slice_known-3-1.given; me = c.shared_slice_known-2-1.given; token = c.shared_slice_known-1.given } }
+abbrev up_1 : Else-listed-ne0 → After-list_in-listed
+up_1 c = record { before = c.before.before.before.before.before; type_inv = record { policy = c.shared_slice_known-4-1.given; descriptor = c.shared_slice_known-3-1.given; me = c.shared_slice_known-2-1.given; token = c.shared_slice_known-1.given } }
 
-abbrev up-2 : Else-verdict-ne0 → After-verdict_number-verdict
-up-2 c = record { before = c.before.before; type_inv = record { room = c.slice_known-2-1.given; policy = c.shared_slice_known-4-1.given; descriptor = c.shared_slice_known-3-1.given; me = c.shared_slice_known-2-1.given; token = c.shared_slice_known-1.given } }
+abbrev up_2 : Else-verdict-ne0 → After-verdict_number-verdict
+up_2 c = record { before = c.before.before; type_inv = record { room = c.slice_known-2-1.given; policy = c.shared_slice_known-4-1.given; descriptor = c.shared_slice_known-3-1.given; me = c.shared_slice_known-2-1.given; token = c.shared_slice_known-1.given } }
 
 listed : (c : After-list_in-listed) →
     Listed c.args.token.now c.list_in-listed.result c.list_in-listed.new.room
@@ -36,7 +36,7 @@ listed c =
 
 token_at : (c : Else-listed-ne0) →
     Held c.args.token.now c.list_in-listed.result c.list_in-listed.new.room
-token_at c = held c.args.token.now c.list_in-listed.result _ (listed (up-1 c)) c.if-listed-ne0.false
+token_at c = held c.args.token.now c.list_in-listed.result _ (listed (up_1 c)) c.if-listed-ne0.false
 
 long_at : (c : Else-listed-ne0) → length c.list_in-listed.new.room ≡ length c.args.room.now
 long_at c = search rules
@@ -53,7 +53,7 @@ number_at : (c : After-verdict_number-verdict) →
 number_at c = c.verdict_number-verdict.ensures ∙ ap (λ (p : Parts). descriptor.number_of p.verdict) c.read-parts.ensures.value
 
 whole_at : (c : Else-verdict-ne0) → descriptor_number c.args.descriptor.now ≡ 0
-whole_at c = sym (number_at (up-2 c)) ∙ c.if-verdict-ne0.false
+whole_at c = sym (number_at (up_2 c)) ∙ c.if-verdict-ne0.false
 
 standing_at : (c : After-standing_number-standing) →
     c.standing_number-standing.result ≡ policy_number c.args.policy.now
@@ -77,7 +77,7 @@ returns-then-not-self_fits c =
     let t = token_at (goal.at.returns-then-not-self_fits c).Else-listed-ne0 in
     record {
       value = c.stopped-then-not-self_fits.ensures
-          ∙ sym (findings-self a.kind a.token.now a.me.now a.descriptor.now a.policy.now
+          ∙ sym (findings_self a.kind a.token.now a.me.now a.descriptor.now a.policy.now
           t.token t.end t.read t.kept (sym c.self_fits.ensures ∙ c.if-not-self_fits.true));
       room_after = stopped_room 5 c.stopped-then-not-self_fits.result _ a.token.now c.stopped-then-not-self_fits.ensures (λ z. omega arith);
     }
@@ -89,7 +89,7 @@ returns-then-verdict-ne0 c =
     let t = token_at (goal.at.returns-then-verdict-ne0 c).Else-listed-ne0 in
     record {
       value = c.stopped-then-verdict-ne0.ensures
-          ∙ rw n (sym (findings-descriptor a.kind a.token.now a.me.now a.descriptor.now a.policy.now
+          ∙ rw n (sym (findings_descriptor a.kind a.token.now a.me.now a.descriptor.now a.policy.now
           t.token t.end t.read t.kept (self_at (goal.at.returns-then-verdict-ne0 c).Else-not-self_fits) (λ z. c.if-verdict-ne0.true (n ∙ z))));
       room_after = stopped_room _ c.stopped-then-verdict-ne0.result _ a.token.now c.stopped-then-verdict-ne0.ensures c.if-verdict-ne0.true;
     }
@@ -105,7 +105,7 @@ returns-then-standing-ne0 c =
     record {
       value = c.stopped-then-standing-ne0.ensures
           ∙ rw n
-          (sym (findings-policy a.kind a.token.now a.me.now a.descriptor.now a.policy.now
+          (sym (findings_policy a.kind a.token.now a.me.now a.descriptor.now a.policy.now
           t.token t.end t.read t.kept (self_at (goal.at.returns-then-standing-ne0 c).Else-not-self_fits) (whole_at (goal.at.returns-then-standing-ne0 c).Else-verdict-ne0) (λ z. c.if-standing-ne0.true (n ∙ z))));
       room_after = stopped_room _ c.stopped-then-standing-ne0.result _ a.token.now c.stopped-then-standing-ne0.ensures c.if-standing-ne0.true;
     }
@@ -144,7 +144,7 @@ returns c =
     let long = o.long ∙ sym (ap length o.bytes) ∙ ap length t.bytes in
     record {
       value = findings_made _ t.token d c.read-parts.result found long c.read-parts.ensures.value
-          ∙ sym (findings-found a.kind a.token.now a.me.now a.descriptor.now a.policy.now
+          ∙ sym (findings_found a.kind a.token.now a.me.now a.descriptor.now a.policy.now
           t.token t.end t.read t.kept (self_at (goal.at.returns c).Else-not-self_fits) (whole_at (goal.at.returns c).Else-verdict-ne0) sound);
       room_after = ((λ z. o.bytes), omega (arith, long_at (goal.at.returns c).Else-listed-ne0, c.list_in-listed.ensures.length_in_bounds.0));
     }

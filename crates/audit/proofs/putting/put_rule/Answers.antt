@@ -7,7 +7,7 @@ use Rattle.records.specs.Crowd.{Member}
 use Rattle.passes.specs.Chains.{shown}
 use Rattle.policy.specs.ByLengths.{lists_by_lengths}
 use Rattle.audit.proofs.NotingLaws.{noted_none, noted_same, room_same}
-use Rattle.audit.proofs.PuttingSteps.{section_empty, rule-empty, rule-passed, rule-applies}
+use Rattle.audit.proofs.PuttingSteps.{section_empty, rule_empty, rule_passed, rule_applies}
 use Rattle.std.proofs.Common.{ap, not}
 use Rattle.audit.proofs.putting.put_rule.Goals as goal
 use Rattle.audit.proofs.putting.put_rule.Goals.{Start}
@@ -21,7 +21,7 @@ returns-then-to-from c =
     record {
       noted = noted_same
           (sym
-          (rule-empty a.sought (members (goal.at.returns-then-to-from c).Start) a.hits a.source (lists_by_lengths a.s.now a.r)
+          (rule_empty a.sought (members (goal.at.returns-then-to-from c).Start) a.hits a.source (lists_by_lengths a.s.now a.r)
           (section_empty a.s.now a.r.sacl.from a.r.sacl.to c.if-to-from.true)))
           (noted_none a.write a.out.now a.o);
       upper_bound = omega arith;
@@ -33,7 +33,7 @@ returns-then-not-admits c =
     record {
       noted = noted_same
           (sym
-          (rule-passed a.sought (members (goal.at.returns-then-not-admits c).Start) a.hits a.source (lists_by_lengths a.s.now a.r)
+          (rule_passed a.sought (members (goal.at.returns-then-not-admits c).Start) a.hits a.source (lists_by_lengths a.s.now a.r)
           c.admits.result c.admits.ensures (ap not c.if-not-admits.true)))
           (noted_none a.write a.out.now a.o);
       upper_bound = omega arith;
@@ -45,7 +45,7 @@ put_list-requires c =
       c.requires.o_bound.0,
       room_same a.out.now a.o
           (sym
-          (rule-applies a.sought (members (goal.at.put_list-requires c).Start) a.hits a.source (lists_by_lengths a.s.now a.r)
+          (rule_applies a.sought (members (goal.at.put_list-requires c).Start) a.hits a.source (lists_by_lengths a.s.now a.r)
           c.admits.result c.admits.ensures (ap not c.if-not-admits.false)))
           c.requires.o_bound.1,
     )
@@ -56,7 +56,7 @@ returns c =
     let e = c.put_list.ensures in
     record {
       noted = noted_same
-          (rule-applies a.sought (members (goal.at.returns c).Start) a.hits a.source (lists_by_lengths a.s.now a.r)
+          (rule_applies a.sought (members (goal.at.returns c).Start) a.hits a.source (lists_by_lengths a.s.now a.r)
           c.admits.result c.admits.ensures (ap not c.if-not-admits.false))
           e.noted;
       upper_bound = e.upper_bound;

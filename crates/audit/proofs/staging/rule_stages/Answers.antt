@@ -5,19 +5,19 @@ use borrow.Author.Tests.{lt-ltb, le-ltb}
 use Rattle.passes.specs.Chains.{shown}
 use Rattle.policy.specs.ByLengths.{lists_by_lengths}
 use Rattle.policy.proofs.RulesSteps.{section_there}
-use Rattle.audit.proofs.StagingSteps.{stages-none, stages-passed, stages-applies}
+use Rattle.audit.proofs.StagingSteps.{stages_none, stages_passed, stages_applies}
 use Rattle.audit.proofs.staging.rule_stages.Goals as goal
 
 pub returns-then-end-start : goal.returns-then-end-start
 returns-then-end-start c =
     let a = c.args in
-    sym (stages-none a.sought (shown a.heads.now a.seats.now a.listing.now) a.hits (lists_by_lengths a.s.now a.r)
+    sym (stages_none a.sought (shown a.heads.now a.seats.now a.listing.now) a.hits (lists_by_lengths a.s.now a.r)
     (sym (section_there a.s.now a.r.staged_sacl c.requires.1.1.1.1.1) ∙ le-ltb _ _ c.if-end-start.true))
 
 pub returns-then-not-admits : goal.returns-then-not-admits
 returns-then-not-admits c =
     let a = c.args in
-    sym (stages-passed a.sought (shown a.heads.now a.seats.now a.listing.now) a.hits (lists_by_lengths a.s.now a.r)
+    sym (stages_passed a.sought (shown a.heads.now a.seats.now a.listing.now) a.hits (lists_by_lengths a.s.now a.r)
     (sym (section_there a.s.now a.r.staged_sacl c.requires.1.1.1.1.1) ∙ lt-ltb _ _ c.if-end-start.false)
     (sym c.admits.ensures ∙ c.if-not-admits.true))
 
@@ -25,7 +25,7 @@ pub returns : goal.returns
 returns c =
     let a = c.args in
     c.differ.ensures
-    ∙ sym (stages-applies a.sought (shown a.heads.now a.seats.now a.listing.now) a.hits
+    ∙ sym (stages_applies a.sought (shown a.heads.now a.seats.now a.listing.now) a.hits
     (lists_by_lengths a.s.now a.r)
     (sym (section_there a.s.now a.r.staged_sacl c.requires.1.1.1.1.1) ∙ lt-ltb _ _ c.if-end-start.false)
     (sym c.admits.ensures ∙ c.if-not-admits.false))

@@ -4,7 +4,7 @@ use Prim.Native.Nat.{ℕ}
 use mathlib.Core.Path.{sym, ap, ◌∙◌}
 use native.Mathlib.Omega.{arith}
 use Rattle.passes.specs.Chains.{shown}
-use Rattle.audit.proofs.StagingSteps.{Left, left_end, left-stop, left-stages, left-more}
+use Rattle.audit.proofs.StagingSteps.{Left, left_end, left_stop, left_stages, left_more}
 use Rattle.audit.proofs.staging.stages_audit.Goals as goal
 
 pub loop-k-init : goal.loop-k-init
@@ -17,7 +17,7 @@ pub returns-then-next-eq0 : goal.returns-then-next-eq0
 returns-then-next-eq0 c =
     let a = c.args in
     sym (c.loop-k.invariant
-    ∙ left-stop a.sought (shown a.heads.now a.seats.now a.listing.now) a.hits a.s.now c.u32_at-n.result
+    ∙ left_stop a.sought (shown a.heads.now a.seats.now a.listing.now) a.hits a.s.now c.u32_at-n.result
     c.loop-k.k c.loop-k.place c.rule_by_lengths-r.result c.loop-k-test.true c.rule_by_lengths-r.ensures.value
     c.if-next-eq0.true)
 
@@ -25,7 +25,7 @@ pub returns-then-rule_stages : goal.returns-then-rule_stages
 returns-then-rule_stages c =
     let a = c.args in
     sym (c.loop-k.invariant
-    ∙ left-stages a.sought (shown a.heads.now a.seats.now a.listing.now) a.hits a.s.now c.u32_at-n.result
+    ∙ left_stages a.sought (shown a.heads.now a.seats.now a.listing.now) a.hits a.s.now c.u32_at-n.result
     c.loop-k.k c.loop-k.place c.rule_by_lengths-r.result c.loop-k-test.true c.rule_by_lengths-r.ensures.value
     c.if-next-eq0.false (sym c.rule_stages.ensures ∙ c.if-rule_stages.true))
 
@@ -33,7 +33,7 @@ pub loop-k-preserved : goal.loop-k-preserved
 loop-k-preserved c =
     let a = c.args in
     c.loop-k.invariant
-    ∙ left-more a.sought (shown a.heads.now a.seats.now a.listing.now) a.hits a.s.now c.u32_at-n.result
+    ∙ left_more a.sought (shown a.heads.now a.seats.now a.listing.now) a.hits a.s.now c.u32_at-n.result
     c.loop-k.k c.loop-k.place c.rule_by_lengths-r.result c.loop-k-test.true c.rule_by_lengths-r.ensures.value
     c.if-next-eq0.false (sym c.rule_stages.ensures ∙ c.if-rule_stages.false)
 

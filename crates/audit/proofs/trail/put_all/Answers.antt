@@ -9,7 +9,7 @@ use Rattle.policy.specs.ByLengths.{rules_by_lengths}
 use Rattle.audit.specs.Events.{events_in, rules_events, events_of}
 use Rattle.audit.specs.Trail.{trail_bytes}
 use Rattle.audit.proofs.NotingLaws.{noted_both, noted_same, room_same, room_first, room_second}
-use Rattle.audit.proofs.PuttingSteps.{all-events}
+use Rattle.audit.proofs.PuttingSteps.{all_events}
 use Rattle.audit.proofs.trail.put_all.Goals as goal
 use Rattle.audit.proofs.trail.put_all.Goals.{Start}
 
@@ -36,7 +36,7 @@ second z =
 parted : (z : Start) → whole z ≡ first z ++ second z
 parted z =
     let a = z.args in
-    all-events a.sought (shown a.heads.now a.seats.now a.listing.now) a.hits a.sacl.now
+    all_events a.sought (shown a.heads.now a.seats.now a.listing.now) a.hits a.sacl.now
     (rules_by_lengths a.policy.now)
 
 pub put_list-o-requires : goal.put_list-o-requires

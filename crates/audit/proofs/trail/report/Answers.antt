@@ -7,7 +7,7 @@ use Rattle.passes.specs.Chains.{shown}
 use Rattle.policy.specs.ByLengths.{rules_by_lengths}
 use Rattle.audit.specs.Events.{events_of}
 use Rattle.audit.specs.Trail.{trail_bytes}
-use Rattle.audit.proofs.NotingLaws.{room_none, measured-room, measured-nothing, measured-none, measured-all}
+use Rattle.audit.proofs.NotingLaws.{room_none, measured_room, measured_nothing, measured_none, measured_all}
 use Rattle.audit.proofs.trail.report.Goals as goal
 use Rattle.audit.proofs.trail.report.Goals.{Start}
 
@@ -22,13 +22,13 @@ pub put_all-n-requires : goal.put_all-n-requires
 put_all-n-requires c = room_none c.args.out.now 0 (whole (goal.at.put_all-n-requires c).Start)
 
 pub returns-then-n-eq0 : goal.returns-then-n-eq0
-returns-then-n-eq0 c = let whole = measured-nothing c.put_all-n.ensures c.if-n-eq0.true in record { fits_value = whole.0; noted = whole.1 }
+returns-then-n-eq0 c = let whole = measured_nothing c.put_all-n.ensures c.if-n-eq0.true in record { fits_value = whole.0; noted = whole.1 }
 
 pub returns-then-out-n : goal.returns-then-out-n
-returns-then-out-n c = let whole = measured-none c.put_all-n.ensures c.if-out-n.true in record { fits_value = whole.0; noted = whole.1 }
+returns-then-out-n c = let whole = measured_none c.put_all-n.ensures c.if-out-n.true in record { fits_value = whole.0; noted = whole.1 }
 
 pub put_all-requires : goal.put_all-requires
-put_all-requires c = measured-room c.put_all-n.ensures c.if-out-n.false
+put_all-requires c = measured_room c.put_all-n.ensures c.if-out-n.false
 
 pub returns : goal.returns
-returns c = let whole = measured-all {w = whole (goal.at.returns c).Start} c.put_all-n.ensures c.if-out-n.false c.put_all.ensures in record { fits_value = whole.0; noted = whole.1 }
+returns c = let whole = measured_all {w = whole (goal.at.returns c).Start} c.put_all-n.ensures c.if-out-n.false c.put_all.ensures in record { fits_value = whole.0; noted = whole.1 }

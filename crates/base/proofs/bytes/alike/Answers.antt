@@ -2,7 +2,7 @@
 -- length. Assumes nothing.
 use mathlib.Core.Path.{refl, sym, ◌∙◌}
 use native.Mathlib.Omega.{arith}
-use Rattle.base.proofs.BytesLaws.{same-hit, same-miss, same_end}
+use Rattle.base.proofs.BytesLaws.{same_hit, same_miss, same_end}
 use Rattle.base.proofs.bytes.alike.Goals as goal
 
 pub loop-i-init : goal.loop-i-init
@@ -11,13 +11,13 @@ loop-i-init c = (omega arith, refl)
 pub returns-then-a-i : goal.returns-then-a-i
 returns-then-a-i c =
     let a = c.args in
-    sym (c.loop-i.invariant.1 ∙ same-miss a.a.now a.b.now c.loop-i.i (omega arith) (omega arith) c.if-a-i.true)
+    sym (c.loop-i.invariant.1 ∙ same_miss a.a.now a.b.now c.loop-i.i (omega arith) (omega arith) c.if-a-i.true)
 
 pub loop-i-preserved : goal.loop-i-preserved
 loop-i-preserved c =
     let a = c.args in (
       omega arith,
-      c.loop-i.invariant.1 ∙ same-hit a.a.now a.b.now c.loop-i.i (omega arith) (omega arith) c.if-a-i.false,
+      c.loop-i.invariant.1 ∙ same_hit a.a.now a.b.now c.loop-i.i (omega arith) (omega arith) c.if-a-i.false,
     )
 
 pub returns : goal.returns

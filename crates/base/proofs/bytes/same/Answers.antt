@@ -6,7 +6,7 @@ use native.Mathlib.Omega.{arith}
 use lib.ListN.{length}
 use Rattle.base.specs.Bytes.{u64_at}
 use Rattle.base.proofs.BytesLaws.{same_false_of_length, bytes_of_lt}
-use Rattle.base.proofs.EightLaws.{eight_miss, eight-hit, eight-end}
+use Rattle.base.proofs.EightLaws.{eight_miss, eight_hit, eight_end}
 use Rattle.base.proofs.bytes.same.Goals as goal
 
 pub returns-then-a-b : goal.returns-then-a-b
@@ -32,7 +32,7 @@ loop-i-preserved c =
     let ba = bytes_of_lt a (λ j l. (c.type_inv.a j).fits) in
     let bb = bytes_of_lt b (λ j l. (c.type_inv.b j).fits) in
     let e : u64_at a i ≡ u64_at b i = omega arith in
-    eight-hit a b ba bb c.if-a-b.false i (omega arith) c.loop-i.invariant e
+    eight_hit a b ba bb c.if-a-b.false i (omega arith) c.loop-i.invariant e
 
 pub returns : goal.returns
 returns c =
@@ -42,4 +42,4 @@ returns c =
     let ba = bytes_of_lt a (λ j l. (c.type_inv.a j).fits) in
     let bb = bytes_of_lt b (λ j l. (c.type_inv.b j).fits) in
     let e : u64_at a k ≡ u64_at b k = omega arith in
-    sym (eight-end a b ba bb c.if-a-b.false c.loop-i.i k (omega arith) (omega arith) c.loop-i.invariant e)
+    sym (eight_end a b ba bb c.if-a-b.false c.loop-i.i k (omega arith) (omega arith) c.loop-i.invariant e)

@@ -2,17 +2,17 @@
 -- Assumes nothing.
 use mathlib.Core.Path.{sym}
 use native.Mathlib.Omega.{arith}
-use Rattle.base.proofs.EightLaws.{u64-at-in, u64-at-out}
+use Rattle.base.proofs.EightLaws.{u64_at_in, u64_at_out}
 use Rattle.base.proofs.bytes.u64_at.Goals as goal
 
 pub returns-then-s-lt8 : goal.returns-then-s-lt8
-returns-then-s-lt8 c = let a = c.args in sym (u64-at-out a.s.now a.at (omega arith))
+returns-then-s-lt8 c = let a = c.args in sym (u64_at_out a.s.now a.at (omega arith))
 
 pub returns-then-s-at : goal.returns-then-s-at
-returns-then-s-at c = let a = c.args in sym (u64-at-out a.s.now a.at (omega arith))
+returns-then-s-at c = let a = c.args in sym (u64_at_out a.s.now a.at (omega arith))
 
 pub returns : goal.returns
 returns c =
     let a = c.args in
-    let e = u64-at-in a.s.now a.at (omega arith) in
+    let e = u64_at_in a.s.now a.at (omega arith) in
     omega (arith, e)

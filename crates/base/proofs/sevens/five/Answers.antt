@@ -2,7 +2,7 @@
 -- Assumes nothing.
 use mathlib.Core.Path.{refl}
 use native.Mathlib.Omega.{arith}
-use Rattle.base.proofs.LongerLaws.{five-groups}
+use Rattle.base.proofs.LongerLaws.{five_groups}
 use Rattle.base.proofs.sevens.five.Goals as goal
 
 pub returns-then-s-at-lt5 : goal.returns-then-s-at-lt5
@@ -26,7 +26,7 @@ returns-then-fifth-eq0 c = λ k. absurd (k refl)
 pub returns : goal.returns
 returns c =
     λ k.
-    five-groups c.args.s.now c.args.at (omega (
+    five_groups c.args.s.now c.args.at (omega (
       arith,
       c.if-s-at-lt5.false,
       c.requires.0,

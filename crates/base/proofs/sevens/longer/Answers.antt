@@ -5,8 +5,8 @@ use mathlib.Core.Path.{◌≡◌, sym, ◌∙◌}
 use native.Mathlib.Omega.{arith}
 use lib.ListN.{get_or}
 use Rattle.base.proofs.SevensSteps.{above_none, above_some}
-use Rattle.base.proofs.LongerLaws.{within_lt, group_lt, shifted, beside-fits}
-use Rattle.base.proofs.LongerLaws.{among_first, among_next, among-cut, among-wide, among-last}
+use Rattle.base.proofs.LongerLaws.{within_lt, group_lt, shifted, beside_fits}
+use Rattle.base.proofs.LongerLaws.{among_first, among_next, among_cut, among_wide, among_last}
 use Rattle.base.proofs.sevens.longer.Goals as goal
 
 pub overflow_sub-value : goal.overflow_sub-value
@@ -26,14 +26,14 @@ loop-place-init c =
 pub returns-then-s-place : goal.returns-then-s-place
 returns-then-s-place c =
     let a = c.args in
-    c.none.ensures ∙ among-cut a.bits a.s.now a.at c.loop-place.value c.loop-place.shift c.loop-place.place c.loop-place.invariant.3
+    c.none.ensures ∙ among_cut a.bits a.s.now a.at c.loop-place.value c.loop-place.shift c.loop-place.place c.loop-place.invariant.3
     c.if-s-place.true
 
 pub returns-then-high-eq0 : goal.returns-then-high-eq0
 returns-then-high-eq0 c =
     let a = c.args in
     c.none-then-high-eq0.ensures ∙ sym (above_none c.loop-place.value c.loop-place.shift c.within-high.result c.if-high-eq0.true) ∙
-    among-last a.bits a.s.now a.at c.loop-place.value c.loop-place.shift c.loop-place.place c.loop-place.invariant.3 c.wide-b.result
+    among_last a.bits a.s.now a.at c.loop-place.value c.loop-place.shift c.loop-place.place c.loop-place.invariant.3 c.wide-b.result
     c.wide-b.ensures.0 (omega arith) c.if-b-lt128.true c.within-high.result c.within-high.ensures
 
 pub overflow_add-result : goal.overflow_add-result
@@ -42,7 +42,7 @@ overflow_add-result c =
     let i = c.loop-place.invariant in
     let r = c.within-high.result in
     let w = within_lt (a.bits - c.loop-place.shift) c.wide-b.result (c.loop-place.place + 1) r c.within-high.ensures in
-    omega (arith, beside-fits a.bits c.loop-place.shift r.value i.2 i.1 w c.loop-place.value i.3.low)
+    omega (arith, beside_fits a.bits c.loop-place.shift r.value i.2 i.1 w c.loop-place.value i.3.low)
 
 pub returns-then-b-lt128 : goal.returns-then-b-lt128
 returns-then-b-lt128 c =
@@ -52,13 +52,13 @@ returns-then-b-lt128 c =
     let w = within_lt (a.bits - c.loop-place.shift) c.wide-b.result (c.loop-place.place + 1) r c.within-high.ensures in
     let e = shifted a.bits c.loop-place.shift r.value i.2 i.1 w in
     rw e (sym (above_some c.loop-place.value c.loop-place.shift r c.if-high-eq0.false)) ∙
-    among-last a.bits a.s.now a.at c.loop-place.value c.loop-place.shift c.loop-place.place i.3 c.wide-b.result c.wide-b.ensures.0
+    among_last a.bits a.s.now a.at c.loop-place.value c.loop-place.shift c.loop-place.place i.3 c.wide-b.result c.wide-b.ensures.0
     (omega arith) c.if-b-lt128.true r c.within-high.ensures
 
 pub returns-then-left-le7 : goal.returns-then-left-le7
 returns-then-left-le7 c =
     let a = c.args in
-    c.none-then-left-le7.ensures ∙ among-wide a.bits a.s.now a.at c.loop-place.value c.loop-place.shift c.loop-place.place c.loop-place.invariant.3
+    c.none-then-left-le7.ensures ∙ among_wide a.bits a.s.now a.at c.loop-place.value c.loop-place.shift c.loop-place.place c.loop-place.invariant.3
     c.wide-b.result c.wide-b.ensures.0 (omega arith) c.if-b-lt128.false (omega arith)
 
 pub overflow_add-value : goal.overflow_add-value
@@ -66,7 +66,7 @@ overflow_add-value c =
     let a = c.args in
     let i = c.loop-place.invariant in
     let w = group_lt (a.bits - c.loop-place.shift) c.wide-b.result c.wide-b.ensures.1 c.if-left-le7.false in
-    omega (arith, beside-fits a.bits c.loop-place.shift (c.wide-b.result - 128) i.2 i.1 w c.loop-place.value i.3.low)
+    omega (arith, beside_fits a.bits c.loop-place.shift (c.wide-b.result - 128) i.2 i.1 w c.loop-place.value i.3.low)
 
 pub loop-place-preserved : goal.loop-place-preserved
 loop-place-preserved c =

@@ -6,7 +6,7 @@ use native.Mathlib.Omega.{arith}
 use lib.ListN.{get_or}
 use Rattle.base.specs.Bytes.Read.{some}
 use Rattle.base.specs.Sevens.{num_of}
-use Rattle.base.proofs.SevensSteps.{number_out, number-alone, num_answer}
+use Rattle.base.proofs.SevensSteps.{number_out, number_alone, num_answer}
 use Rattle.base.proofs.sevens.word32.Goals as goal
 
 pub returns-then-s-at : goal.returns-then-s-at
@@ -19,5 +19,5 @@ pub returns : goal.returns
 returns c =
     let a = c.args in
     let w : c.wide-first.result ≡ get_or a.s.now a.at 0 = c.wide-first.ensures.0 in
-    let e = number-alone 32 a.s.now a.at (omega arith) (omega arith) (omega arith) in let whole = num_answer 32 a.s.now a.at _
+    let e = number_alone 32 a.s.now a.at (omega arith) (omega arith) (omega arith) in let whole = num_answer 32 a.s.now a.at _
     (c.alone.ensures ∙ ap (λ (v : ℕ). num_of (some v (a.at + 1))) w ∙ sym (ap num_of e)) in record { value = whole.0; value_bound = whole.1 }

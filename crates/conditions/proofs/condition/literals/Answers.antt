@@ -3,7 +3,7 @@
 use mathlib.Core.Path.{sym, ◌∙◌}
 use native.Mathlib.Omega.{arith}
 use Rattle.conditions.proofs.OperandLaws.{listing_start, listing_end, listing_stray, listing_broken, listing_more}
-use Rattle.conditions.proofs.OperandLaws.{literal-bounds}
+use Rattle.conditions.proofs.OperandLaws.{literal_bounds}
 use Rattle.conditions.proofs.condition.literals.Goals as goal
 
 pub loop-at-init : goal.loop-at-init
@@ -22,7 +22,7 @@ returns-then-e-eq0 c =
 pub loop-at-smaller : goal.loop-at-smaller
 loop-at-smaller c =
     let l = c.args.c.now in
-    let b = literal-bounds l c.loop-at.at (λ q. c.if-e-eq0.false (c.literal_end-e.ensures.value ∙ q)) in
+    let b = literal_bounds l c.loop-at.at (λ q. c.if-e-eq0.false (c.literal_end-e.ensures.value ∙ q)) in
     omega (arith, b.0, b.1)
 
 pub loop-at-preserved : goal.loop-at-preserved

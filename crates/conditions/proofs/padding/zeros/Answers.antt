@@ -2,7 +2,7 @@
 -- Assumes nothing.
 use mathlib.Core.Path.{refl, sym, ◌∙◌}
 use native.Mathlib.Omega.{arith}
-use Rattle.conditions.proofs.PaddingLaws.{zeros-hit, zeros-miss, zeros-end}
+use Rattle.conditions.proofs.PaddingLaws.{zeros_hit, zeros_miss, zeros_end}
 use Rattle.conditions.proofs.padding.zeros.Goals as goal
 
 pub loop-i-init : goal.loop-i-init
@@ -11,14 +11,14 @@ loop-i-init c = (omega arith, refl)
 pub returns-then-s-i-ne0 : goal.returns-then-s-i-ne0
 returns-then-s-i-ne0 c =
     let l = c.args.s.now in
-    sym (c.loop-i.invariant.1 ∙ zeros-miss l c.loop-i.i (omega arith) c.if-s-i-ne0.true)
+    sym (c.loop-i.invariant.1 ∙ zeros_miss l c.loop-i.i (omega arith) c.if-s-i-ne0.true)
 
 pub loop-i-preserved : goal.loop-i-preserved
 loop-i-preserved c =
     let l = c.args.s.now in
-    (omega arith, c.loop-i.invariant.1 ∙ zeros-hit l c.loop-i.i (omega arith) (omega arith))
+    (omega arith, c.loop-i.invariant.1 ∙ zeros_hit l c.loop-i.i (omega arith) (omega arith))
 
 pub returns : goal.returns
 returns c =
     let l = c.args.s.now in
-    sym (c.loop-i.invariant.1 ∙ zeros-end l c.loop-i.i (omega arith))
+    sym (c.loop-i.invariant.1 ∙ zeros_end l c.loop-i.i (omega arith))

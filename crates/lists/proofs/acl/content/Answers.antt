@@ -9,8 +9,8 @@ use Rattle.base.specs.Bytes.{byte_at, part}
 use Rattle.conditions.specs.Condition.{shape}
 use Rattle.sids.specs.Sid.{sid_end}
 use Rattle.lists.specs.Acl.{entry_end, content_of}
-use Rattle.lists.proofs.TypeLaws.{callback-low, named-low, named-high}
-use Rattle.lists.proofs.EntrySteps.{content-plain, content-foreign, content_shallow, content_condition, entry-end-fits}
+use Rattle.lists.proofs.TypeLaws.{callback_low, named_low, named_high}
+use Rattle.lists.proofs.EntrySteps.{content_plain, content_foreign, content_shallow, content_condition, entry_end_fits}
 use Rattle.lists.proofs.acl.content.Goals as goal
 use Rattle.lists.proofs.acl.content.Goals.{After-sid_end-from}
 
@@ -20,32 +20,32 @@ inside c =
     let a = c.args in
     let k = byte_at a.l.now a.at in
     let t = sym c.is_callback.ensures ∙ c.if-not-is_callback.false in
-    let n = named-high k c.if-kind-lt2.false ∙ t in
+    let n = named_high k c.if-kind-lt2.false ∙ t in
     let e : entry_end true a.l.now a.at ≡ a.e =
     ap (λ (b : Bool). entry_end b a.l.now a.at) (sym (c.if-not-deep.false)) ∙ c.requires.at_value in
     let f : sid_end a.l.now (a.at + 8) ≤ entry_end true a.l.now a.at =
-    entry-end-fits a.l.now a.at n (λ q. omega (arith, c.requires.at_lt_e.0)) in
+    entry_end_fits a.l.now a.at n (λ q. omega (arith, c.requires.at_lt_e.0)) in
     omega (arith, f, e, c.sid_end-from.ensures.value)
 
 pub returns-then-kind-lt2 : goal.returns-then-kind-lt2
 returns-then-kind-lt2 c =
     let a = c.args in
     let k = byte_at a.l.now a.at in
-    sym (content-plain a.deep a.l.now a.at a.e (named-low k c.if-kind-lt2.true) (callback-low k c.if-kind-lt2.true))
+    sym (content_plain a.deep a.l.now a.at a.e (named_low k c.if-kind-lt2.true) (callback_low k c.if-kind-lt2.true))
 
 pub returns-then-not-is_callback : goal.returns-then-not-is_callback
 returns-then-not-is_callback c =
     let a = c.args in
     let k = byte_at a.l.now a.at in
     let t = sym c.is_callback.ensures ∙ c.if-not-is_callback.true in
-    sym (content-foreign a.deep a.l.now a.at a.e (named-high k c.if-kind-lt2.false ∙ t))
+    sym (content_foreign a.deep a.l.now a.at a.e (named_high k c.if-kind-lt2.false ∙ t))
 
 pub returns-then-not-deep : goal.returns-then-not-deep
 returns-then-not-deep c =
     let a = c.args in
     let k = byte_at a.l.now a.at in
     let t = sym c.is_callback.ensures ∙ c.if-not-is_callback.false in
-    let n = named-high k c.if-kind-lt2.false ∙ t in
+    let n = named_high k c.if-kind-lt2.false ∙ t in
     sym (ap (λ (b : Bool). content_of b a.l.now a.at a.e) (c.if-not-deep.true)
     ∙ content_shallow a.l.now a.at a.e n)
 
@@ -60,7 +60,7 @@ returns c =
     let a = c.args in
     let k = byte_at a.l.now a.at in
     let t = sym c.is_callback.ensures ∙ c.if-not-is_callback.false in
-    let n = named-high k c.if-kind-lt2.false ∙ t in
+    let n = named_high k c.if-kind-lt2.false ∙ t in
     c.judge.ensures
     ∙ ap (λ (x : ℕ). shape (part a.l.now x a.e)) c.sid_end-from.ensures.value
     ∙ sym (ap (λ (b : Bool). content_of b a.l.now a.at a.e) (c.if-not-deep.false)

@@ -5,13 +5,13 @@ use mathlib.Core.Path.{sym, ap, ◌∙◌}
 use native.Mathlib.Omega.{arith}
 use Rattle.lists.specs.Acl.{head_end, holds}
 use Rattle.lists.proofs.AclSteps.{head_end_bounds}
-use Rattle.lists.proofs.EntrySteps.{entry-end-none, entry-end-foreign, entry-end-judged}
+use Rattle.lists.proofs.EntrySteps.{entry_end_none, entry_end_foreign, entry_end_judged}
 use Rattle.lists.proofs.acl.entry_end.Goals as goal
 
 pub returns-then-e-eq0 : goal.returns-then-e-eq0
 returns-then-e-eq0 c =
     let a = c.args in
-    record { value = sym (entry-end-none a.deep a.l.now a.at (omega arith)); upper_bound = omega arith }
+    record { value = sym (entry_end_none a.deep a.l.now a.at (omega arith)); upper_bound = omega arith }
 
 pub bounds-l-at : goal.bounds-l-at
 bounds-l-at c =
@@ -25,7 +25,7 @@ returns-then-not-is_judged c =
     let a = c.args in
     let e = c.head_end-e.ensures.value in
     let k = sym c.is_judged.ensures ∙ c.if-not-is_judged.true in
-    record { value = e ∙ sym (entry-end-foreign a.deep a.l.now a.at k); upper_bound = omega arith }
+    record { value = e ∙ sym (entry_end_foreign a.deep a.l.now a.at k); upper_bound = omega arith }
 
 pub holds-requires : goal.holds-requires
 holds-requires c =
@@ -40,7 +40,7 @@ returns-then-holds c =
     let e = c.head_end-e.ensures.value in
     let k = sym c.is_judged.ensures ∙ c.if-not-is_judged.false in
     let h = sym (ap (holds a.l.now a.at) e) ∙ sym c.holds.ensures ∙ c.if-holds.true in
-    record { value = e ∙ sym (entry-end-judged a.deep a.l.now a.at k ∙ ap (λ (t : Bool). cond t (head_end a.l.now a.at) 0) h); upper_bound = omega arith }
+    record { value = e ∙ sym (entry_end_judged a.deep a.l.now a.at k ∙ ap (λ (t : Bool). cond t (head_end a.l.now a.at) 0) h); upper_bound = omega arith }
 
 pub returns : goal.returns
 returns c =
@@ -48,4 +48,4 @@ returns c =
     let e = c.head_end-e.ensures.value in
     let k = sym c.is_judged.ensures ∙ c.if-not-is_judged.false in
     let h = sym (ap (holds a.l.now a.at) e) ∙ sym c.holds.ensures ∙ c.if-holds.false in
-    record { value = sym (entry-end-judged a.deep a.l.now a.at k ∙ ap (λ (t : Bool). cond t (head_end a.l.now a.at) 0) h); upper_bound = omega arith }
+    record { value = sym (entry_end_judged a.deep a.l.now a.at k ∙ ap (λ (t : Bool). cond t (head_end a.l.now a.at) 0) h); upper_bound = omega arith }

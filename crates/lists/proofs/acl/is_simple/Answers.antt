@@ -5,7 +5,7 @@ use mathlib.Core.Path.{sym, ap, ◌∙◌}
 use native.Mathlib.Omega.{arith}
 use Rattle.lists.specs.Simple.{simple_at}
 use Rattle.lists.proofs.AclSteps.{head_end_bounds}
-use Rattle.lists.proofs.SimpleLaws.{simple_start, simple-end, simple-none, simple-other, simple-unfit, simple-more}
+use Rattle.lists.proofs.SimpleLaws.{simple_start, simple_end, simple_none, simple_other, simple_unfit, simple_more}
 use Rattle.lists.proofs.acl.is_simple.Goals as goal
 
 pub loop-k-init : goal.loop-k-init
@@ -18,7 +18,7 @@ pub returns-then-e-eq0 : goal.returns-then-e-eq0
 returns-then-e-eq0 c =
     let a = c.args in
     let n = c.u16_at-n.result in
-    sym (c.loop-k.invariant.1 ∙ simple-none a.deep a.l.now n c.loop-k.k c.loop-k.at (omega arith) (omega arith))
+    sym (c.loop-k.invariant.1 ∙ simple_none a.deep a.l.now n c.loop-k.k c.loop-k.at (omega arith) (omega arith))
 
 pub bounds-l-at : goal.bounds-l-at
 bounds-l-at c =
@@ -31,7 +31,7 @@ pub returns-then-l-at-gt1 : goal.returns-then-l-at-gt1
 returns-then-l-at-gt1 c =
     let a = c.args in
     let n = c.u16_at-n.result in
-    sym (c.loop-k.invariant.1 ∙ simple-other a.deep a.l.now n c.loop-k.k c.loop-k.at c.head_end-e.result c.head_end-e.ensures.value c.if-e-eq0.false
+    sym (c.loop-k.invariant.1 ∙ simple_other a.deep a.l.now n c.loop-k.k c.loop-k.at c.head_end-e.result c.head_end-e.ensures.value c.if-e-eq0.false
     (omega arith) c.if-l-at-gt1.true)
 
 pub fits-requires : goal.fits-requires
@@ -45,7 +45,7 @@ pub returns-then-not-fits : goal.returns-then-not-fits
 returns-then-not-fits c =
     let a = c.args in
     let n = c.u16_at-n.result in
-    sym (c.loop-k.invariant.1 ∙ simple-unfit a.deep a.l.now n c.loop-k.k c.loop-k.at c.head_end-e.result c.head_end-e.ensures.value
+    sym (c.loop-k.invariant.1 ∙ simple_unfit a.deep a.l.now n c.loop-k.k c.loop-k.at c.head_end-e.result c.head_end-e.ensures.value
     c.if-e-eq0.false (omega arith) c.if-l-at-gt1.false
     (sym c.fits.ensures ∙ c.if-not-fits.true))
 
@@ -54,7 +54,7 @@ loop-k-preserved c =
     let a = c.args in
     let n = c.u16_at-n.result in (
       omega arith,
-      c.loop-k.invariant.1 ∙ simple-more a.deep a.l.now n c.loop-k.k c.loop-k.at c.head_end-e.result c.head_end-e.ensures.value
+      c.loop-k.invariant.1 ∙ simple_more a.deep a.l.now n c.loop-k.k c.loop-k.at c.head_end-e.result c.head_end-e.ensures.value
           c.if-e-eq0.false (omega arith) c.if-l-at-gt1.false
           (sym c.fits.ensures ∙ c.if-not-fits.false),
     )
@@ -63,4 +63,4 @@ pub returns : goal.returns
 returns c =
     let a = c.args in
     let n = c.u16_at-n.result in
-    sym (c.loop-k.invariant.1 ∙ simple-end a.deep a.l.now n c.loop-k.k c.loop-k.at (omega arith))
+    sym (c.loop-k.invariant.1 ∙ simple_end a.deep a.l.now n c.loop-k.k c.loop-k.at (omega arith))

@@ -7,7 +7,7 @@ use native.Mathlib.Omega.{arith}
 use Rattle.base.specs.Bytes.{part}
 use Rattle.lists.specs.Descriptor.{acl_piece, piece_of}
 use Rattle.lists.specs.Acl.{acl_end, scan_of}
-use Rattle.lists.proofs.DescriptorSteps.{acl-piece-absent, acl-piece-low, acl-piece-bad, acl-piece-of}
+use Rattle.lists.proofs.DescriptorSteps.{acl_piece_absent, acl_piece_low, acl_piece_bad, acl_piece_of}
 use Rattle.lists.proofs.AclSteps.{acl_end_bounds}
 use Rattle.lists.proofs.descriptor.acl_piece.Goals as goal
 
@@ -15,14 +15,14 @@ pub returns-then-not-followed : goal.returns-then-not-followed
 returns-then-not-followed c =
     let a = c.args in
     let t = ap (λ (t : Bool). acl_piece a.deep a.d.now t a.at) (c.if-not-followed.true) in
-    record { value = sym (t ∙ acl-piece-absent a.deep a.d.now a.at); result_bound = (omega arith, omega arith) }
+    record { value = sym (t ∙ acl_piece_absent a.deep a.d.now a.at); result_bound = (omega arith, omega arith) }
 
 pub returns-then-at-lt20 : goal.returns-then-at-lt20
 returns-then-at-lt20 c =
     let a = c.args in
     record {
       value = sym (ap (λ (t : Bool). acl_piece a.deep a.d.now t a.at) (c.if-not-followed.false)
-          ∙ acl-piece-low a.deep a.d.now a.at (omega arith));
+          ∙ acl_piece_low a.deep a.d.now a.at (omega arith));
       result_bound = (omega arith, omega arith);
     }
 
@@ -31,7 +31,7 @@ returns-then-e-eq0 c =
     let a = c.args in
     record {
       value = sym (ap (λ (t : Bool). acl_piece a.deep a.d.now t a.at) (c.if-not-followed.false)
-          ∙ acl-piece-bad a.deep a.d.now a.at (omega arith) (omega arith));
+          ∙ acl_piece_bad a.deep a.d.now a.at (omega arith) (omega arith));
       result_bound = (omega arith, omega arith);
     }
 
@@ -60,7 +60,7 @@ returns-in-Broken c =
           ∙ ap (λ (x : ℕ). piece_of a.at x (scan_of a.deep (part a.d.now a.at x))) e
           ∙ sym
           (ap (λ (t : Bool). acl_piece a.deep a.d.now t a.at) f
-          ∙ acl-piece-of a.deep a.d.now a.at (omega arith) n);
+          ∙ acl_piece_of a.deep a.d.now a.at (omega arith) n);
       result_bound = (omega (arith, b.0), omega arith);
     }
 
@@ -77,7 +77,7 @@ returns-in-Foreign c =
           ∙ ap (λ (x : ℕ). piece_of a.at x (scan_of a.deep (part a.d.now a.at x))) e
           ∙ sym
           (ap (λ (t : Bool). acl_piece a.deep a.d.now t a.at) f
-          ∙ acl-piece-of a.deep a.d.now a.at (omega arith) n);
+          ∙ acl_piece_of a.deep a.d.now a.at (omega arith) n);
       result_bound = (omega (arith, b.0), omega arith);
     }
 
@@ -94,6 +94,6 @@ returns-in-Plain c =
           ∙ ap (λ (x : ℕ). piece_of a.at x (scan_of a.deep (part a.d.now a.at x))) e
           ∙ sym
           (ap (λ (t : Bool). acl_piece a.deep a.d.now t a.at) f
-          ∙ acl-piece-of a.deep a.d.now a.at (omega arith) n);
+          ∙ acl_piece_of a.deep a.d.now a.at (omega arith) n);
       result_bound = (omega (arith, b.0), omega arith);
     }

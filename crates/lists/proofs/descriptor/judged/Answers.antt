@@ -1,8 +1,8 @@
 -- `judged` meets its contract: each way out is a test of the definition, with those before it failed.
 -- Assumes nothing.
 use mathlib.Core.Path.{sym, ◌∙◌}
-use Rattle.lists.proofs.DescriptorSteps.{judged-owner-bad, judged-group-bad, judged-sacl-bad, judged-dacl-bad}
-use Rattle.lists.proofs.DescriptorSteps.{judged-ownerless, judged-foreign, judged-whole, whole_made}
+use Rattle.lists.proofs.DescriptorSteps.{judged_owner_bad, judged_group_bad, judged_sacl_bad, judged_dacl_bad}
+use Rattle.lists.proofs.DescriptorSteps.{judged_ownerless, judged_foreign, judged_whole, whole_made}
 use Rattle.lists.proofs.descriptor.judged.Goals as goal
 
 pub returns-then-is_bad : goal.returns-then-is_bad
@@ -10,7 +10,7 @@ returns-then-is_bad c =
     let a = c.args in
     c.refused.ensures
     ∙ sym
-    (judged-owner-bad a.o a.g a.s a.a
+    (judged_owner_bad a.o a.g a.s a.a
     (sym c.is_bad.ensures ∙ c.if-is_bad.true))
 
 pub returns-then-is_bad-2 : goal.returns-then-is_bad-2
@@ -18,7 +18,7 @@ returns-then-is_bad-2 c =
     let a = c.args in
     c.refused-then-is_bad-2.ensures
     ∙ sym
-    (judged-group-bad a.o a.g a.s a.a
+    (judged_group_bad a.o a.g a.s a.a
     (sym c.is_bad.ensures ∙ c.if-is_bad.false)
     (sym c.is_bad-2.ensures ∙ c.if-is_bad-2.true))
 
@@ -27,7 +27,7 @@ returns-then-is_bad-3 c =
     let a = c.args in
     c.refused-then-is_bad-3.ensures
     ∙ sym
-    (judged-sacl-bad a.o a.g a.s a.a
+    (judged_sacl_bad a.o a.g a.s a.a
     (sym c.is_bad.ensures ∙ c.if-is_bad.false)
     (sym c.is_bad-2.ensures ∙ c.if-is_bad-2.false)
     (sym c.is_bad-3.ensures ∙ c.if-is_bad-3.true))
@@ -37,7 +37,7 @@ returns-then-is_bad-4 c =
     let a = c.args in
     c.refused-then-is_bad-4.ensures
     ∙ sym
-    (judged-dacl-bad a.o a.g a.s a.a
+    (judged_dacl_bad a.o a.g a.s a.a
     (sym c.is_bad.ensures ∙ c.if-is_bad.false)
     (sym c.is_bad-2.ensures ∙ c.if-is_bad-2.false)
     (sym c.is_bad-3.ensures ∙ c.if-is_bad-3.false)
@@ -48,7 +48,7 @@ returns-then-is_absent c =
     let a = c.args in
     c.refused-then-is_absent.ensures
     ∙ sym
-    (judged-ownerless a.o a.g a.s a.a
+    (judged_ownerless a.o a.g a.s a.a
     (sym c.is_bad.ensures ∙ c.if-is_bad.false)
     (sym c.is_bad-2.ensures ∙ c.if-is_bad-2.false)
     (sym c.is_bad-3.ensures ∙ c.if-is_bad-3.false)
@@ -60,7 +60,7 @@ returns-then-is_alien c =
     let a = c.args in
     c.refused-then-is_alien.ensures
     ∙ sym
-    (judged-foreign a.o a.g a.s a.a
+    (judged_foreign a.o a.g a.s a.a
     (sym c.is_bad.ensures ∙ c.if-is_bad.false)
     (sym c.is_bad-2.ensures ∙ c.if-is_bad-2.false)
     (sym c.is_bad-3.ensures ∙ c.if-is_bad-3.false)
@@ -78,7 +78,7 @@ returns c =
     c.place_of-3.ensures
     c.place_of-4.ensures
     ∙ sym
-    (judged-whole a.o a.g a.s a.a
+    (judged_whole a.o a.g a.s a.a
     (sym c.is_bad.ensures ∙ c.if-is_bad.false)
     (sym c.is_bad-2.ensures ∙ c.if-is_bad-2.false)
     (sym c.is_bad-3.ensures ∙ c.if-is_bad-3.false)

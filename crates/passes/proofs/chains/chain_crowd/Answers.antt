@@ -6,7 +6,7 @@ use mathlib.Core.Path.{◌≡◌, refl, sym, ap, ◌∙◌}
 use native.Mathlib.Omega.{arith}
 use lib.ListN.{length-set}
 use Rattle.passes.specs.Chains.{Tables, tables, chained}
-use Rattle.passes.proofs.LinkSteps.{chains_start, chained-none, chained-many, chained-last, chained_more, linked_made}
+use Rattle.passes.proofs.LinkSteps.{chains_start, chained_none, chained_many, chained_last, chained_more, linked_made}
 use Rattle.passes.proofs.chains.chain_crowd.Goals as goal
 
 -- both tables, from the two together
@@ -27,17 +27,17 @@ loop-seat-init c =
     )
 
 pub returns-then-to-eq0 : goal.returns-then-to-eq0
-returns-then-to-eq0 c = let a = c.args in let whole = both _ _ _ (c.loop-seat.invariant.1.1.1 ∙ chained-none a.attrs a.listing.now _ c.loop-seat.i c.loop-seat.seat c.loop-seat.left c.if-to-eq0.true) in record { heads_after = whole.0; seats_after = whole.1 }
+returns-then-to-eq0 c = let a = c.args in let whole = both _ _ _ (c.loop-seat.invariant.1.1.1 ∙ chained_none a.attrs a.listing.now _ c.loop-seat.i c.loop-seat.seat c.loop-seat.left c.if-to-eq0.true) in record { heads_after = whole.0; seats_after = whole.1 }
 
 pub returns-then-seats-i : goal.returns-then-seats-i
 returns-then-seats-i c =
-    let a = c.args in let whole = both _ _ _ (c.loop-seat.invariant.1.1.1 ∙ chained-many a.attrs a.listing.now _ c.loop-seat.i c.loop-seat.seat c.loop-seat.left c.if-to-eq0.false
+    let a = c.args in let whole = both _ _ _ (c.loop-seat.invariant.1.1.1 ∙ chained_many a.attrs a.listing.now _ c.loop-seat.i c.loop-seat.seat c.loop-seat.left c.if-to-eq0.false
     c.if-seats-i.true) in record { heads_after = whole.0; seats_after = whole.1 }
 
 pub returns-then-left-eq0 : goal.returns-then-left-eq0
 returns-then-left-eq0 c =
     let a = c.args in let whole = both _ _ _ (c.loop-seat.invariant.1.1.1
-    ∙ chained-last a.attrs a.listing.now _ c.loop-seat.i c.loop-seat.seat c.loop-seat.left c.if-to-eq0.false (omega (arith, c.if-seats-i.false)) c.if-left-eq0.true
+    ∙ chained_last a.attrs a.listing.now _ c.loop-seat.i c.loop-seat.seat c.loop-seat.left c.if-to-eq0.false (omega (arith, c.if-seats-i.false)) c.if-left-eq0.true
     ∙ linked_made a.listing.now _ _ c.loop-seat.i c.key-k.result c.last.result
     c.cell.result c.loop-seat.seat c.key-k.ensures.value c.last.ensures
     c.cell.ensures) in record { heads_after = whole.0; seats_after = whole.1 }

@@ -2,19 +2,19 @@
 -- Assumes nothing.
 use mathlib.Core.Path.{sym, ◌∙◌}
 use Rattle.passes.specs.Chains.{shown}
-use Rattle.passes.proofs.MatchingLaws.{matches-virtual, matches-among}
+use Rattle.passes.proofs.MatchingLaws.{matches_virtual, matches_among}
 use Rattle.passes.proofs.matching.matches.Goals as goal
 
 pub returns-then-is_virtual : goal.returns-then-is_virtual
 returns-then-is_virtual c =
     let a = c.args in
     c.virtual_matches.ensures
-    ∙ sym (matches-virtual a.allow (shown a.heads.now a.seats.now a.listing.now) a.w.now a.hits
+    ∙ sym (matches_virtual a.allow (shown a.heads.now a.seats.now a.listing.now) a.w.now a.hits
     (sym c.is_virtual.ensures ∙ c.if-is_virtual.true))
 
 pub returns : goal.returns
 returns c =
     let a = c.args in
     c.among.ensures
-    ∙ sym (matches-among a.allow (shown a.heads.now a.seats.now a.listing.now) a.w.now a.hits
+    ∙ sym (matches_among a.allow (shown a.heads.now a.seats.now a.listing.now) a.w.now a.hits
     (sym c.is_virtual.ensures ∙ c.if-is_virtual.false))

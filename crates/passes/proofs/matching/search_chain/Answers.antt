@@ -9,8 +9,8 @@ use lib.ListN.{get_or}
 use Rattle.base.proofs.BoolLaws.{neither}
 use Rattle.passes.specs.Chains.{next_in, sits_in, near, row, chain}
 use Rattle.passes.specs.Matching.{among}
-use Rattle.passes.proofs.ChainsLaws.{chain-none, chain-hit, chain-near, chain_more, far_below}
-use Rattle.passes.proofs.RowLaws.{row-none, row-hit, row_more}
+use Rattle.passes.proofs.ChainsLaws.{chain_none, chain_hit, chain_near, chain_more, far_below}
+use Rattle.passes.proofs.RowLaws.{row_none, row_hit, row_more}
 use Rattle.passes.proofs.matching.search_chain.Goals as goal
 use Rattle.passes.proofs.matching.search_chain.Goals.{Joined-is_near, then-is_near, else-is_near}
 
@@ -20,18 +20,18 @@ module _ (allow : Bool) (seats s w : List ℕ) (n : ℕ) where
   Left down = among allow (cond down (row seats s n) (chain seats s n n)) w
 
   none : (down : Bool) → n ≡ 0 → Left down ≡ false
-  none true z = row-none allow seats s w n z
-  none false z = chain-none allow seats s w n z
+  none true z = row_none allow seats s w n z
+  none false z = chain_none allow seats s w n z
 
   module _ (less x : ℕ) (one : n ≡ suc less) (here : x ≡ get_or seats n 0) where
     hit : (down : Bool) → sits_in allow s x w ≡ true → Left down ≡ true
-    hit true e = row-hit allow seats s w n less x one here e
-    hit false e = chain-hit allow seats s w n less x one here e
+    hit true e = row_hit allow seats s w n less x one here e
+    hit false e = chain_hit allow seats s w n less x one here e
 
     miss : (down by : Bool) (after : ℕ) → sits_in allow s x w ≡ false → after ≡ next_in x → by ≡ near n after →
         Left down ≡ among allow (cond (down || by) (row seats s less) (chain seats s after after)) w
     miss true by after e p q = row_more allow seats s w n less x one here e
-    miss false true after e p q = chain-near allow seats s w n less x one here e (ap (near n) (sym p) ∙ sym q)
+    miss false true after e p q = chain_near allow seats s w n less x one here e (ap (near n) (sym p) ∙ sym q)
     miss false false after e p q = chain_more allow seats s w n less x one here after e p (sym q)
 
 -- down the row: before, or from here on

@@ -5,7 +5,7 @@ use mathlib.Core.Path.{◌≡◌, sym, ap, ◌∙◌}
 use native.Mathlib.Omega.{arith}
 use lib.ListN.{length, get_or}
 use Rattle.seats.specs.Key.{key_of}
-use Rattle.passes.proofs.ChainsLaws.{head-past, head-within}
+use Rattle.passes.proofs.ChainsLaws.{head_past, head_within}
 use Rattle.passes.proofs.search.head.Goals as goal
 use Rattle.passes.proofs.search.head.Goals.{After-wide-n}
 
@@ -18,10 +18,10 @@ read c = c.wide-n.ensures.0 ∙ ap (λ (k : ℕ). get_or c.args.heads.now k 0)
 pub returns-then-seats-n : goal.returns-then-seats-n
 returns-then-seats-n c =
     let a = c.args in
-    record { value = sym (head-past a.heads.now a.seats.now a.w.now c.wide-n.result (read (goal.at.returns-then-seats-n c).After-wide-n) c.if-seats-n.true); upper_bound = omega arith }
+    record { value = sym (head_past a.heads.now a.seats.now a.w.now c.wide-n.result (read (goal.at.returns-then-seats-n c).After-wide-n) c.if-seats-n.true); upper_bound = omega arith }
 
 pub returns : goal.returns
 returns c =
     let a = c.args in
     let within : c.wide-n.result < length a.seats.now = omega (arith, c.if-seats-n.false) in
-    record { value = sym (head-within a.heads.now a.seats.now a.w.now c.wide-n.result (read (goal.at.returns c).After-wide-n) within); upper_bound = omega arith }
+    record { value = sym (head_within a.heads.now a.seats.now a.w.now c.wide-n.result (read (goal.at.returns c).After-wide-n) within); upper_bound = omega arith }

@@ -8,7 +8,7 @@ use native.Mathlib.Omega.{arith}
 use lib.Dec.{eqb}
 use lib.ListN.{get_or}
 use Rattle.passes.specs.Chains.{last_in}
-use Rattle.passes.proofs.RowLaws.{row-none, row-hit, row_more, row-four}
+use Rattle.passes.proofs.RowLaws.{row_none, row_hit, row_more, row_four}
 use Rattle.passes.proofs.search.search_row.Goals as goal
 
 -- one of the four seats from a number down has the word
@@ -25,7 +25,7 @@ fours-preserved c =
     let a = c.args in (
       omega (arith, c.fours.invariant.0),
       c.fours.invariant.1
-          ∙ row-four a.allow a.seats.now a.listing.now a.w.now c.fours.n c.fours-test.true
+          ∙ row_four a.allow a.seats.now a.listing.now a.w.now c.fours.n c.fours-test.true
           (ap (λ (v : ℕ). any_of a.seats.now c.fours.n v) (sym c.last-word.ensures)
           ∙ sym c.one_ends.ensures ∙ c.if-one_ends.false),
     )
@@ -40,7 +40,7 @@ pub returns-then-sits : goal.returns-then-sits
 returns-then-sits c =
     let a = c.args in
     sym (c.loop-n.invariant.1
-    ∙ row-hit a.allow a.seats.now a.listing.now a.w.now c.loop-n.n (c.loop-n.n - 1) _ (omega (
+    ∙ row_hit a.allow a.seats.now a.listing.now a.w.now c.loop-n.n (c.loop-n.n - 1) _ (omega (
       arith,
       c.loop-n-test.true,
     )) refl (sym c.sits.ensures ∙ c.if-sits.true))
@@ -59,4 +59,4 @@ loop-n-preserved c =
 pub returns : goal.returns
 returns c =
     let a = c.args in
-    sym (c.loop-n.invariant.1 ∙ row-none a.allow a.seats.now a.listing.now a.w.now c.loop-n.n (omega (arith, c.loop-n-test.false)))
+    sym (c.loop-n.invariant.1 ∙ row_none a.allow a.seats.now a.listing.now a.w.now c.loop-n.n (omega (arith, c.loop-n-test.false)))

@@ -4,30 +4,30 @@ use mathlib.Core.Path.{sym, ap, ◌∙◌}
 use native.Mathlib.Omega.{arith}
 use lib.Dec.{eqb}
 use Rattle.passes.specs.Chains.{last_in}
-use Rattle.passes.proofs.SitsLaws.{sits-other, sits-out, sits-idle, sits-same}
+use Rattle.passes.proofs.SitsLaws.{sits_other, sits_out, sits_idle, sits_same}
 use Rattle.passes.proofs.search.sits.Goals as goal
 
 pub returns-then-not-ends : goal.returns-then-not-ends
 returns-then-not-ends c =
     let a = c.args in
-    sym (sits-other a.allow a.listing.now a.x a.w.now
+    sym (sits_other a.allow a.listing.now a.x a.w.now
     (ap (eqb (last_in a.x)) (sym c.requires) ∙ sym c.ends.ensures ∙ c.if-not-ends.true))
 
 pub returns-then-listing-to : goal.returns-then-listing-to
 returns-then-listing-to c =
     let a = c.args in
-    sym (sits-out a.allow a.listing.now a.x a.w.now c.if-listing-to.true)
+    sym (sits_out a.allow a.listing.now a.x a.w.now c.if-listing-to.true)
 
 pub returns-then-not-ready : goal.returns-then-not-ready
 returns-then-not-ready c =
     let a = c.args in
-    sym (sits-idle a.allow a.listing.now a.x a.w.now (sym c.ready.ensures ∙ c.if-not-ready.true))
+    sym (sits_idle a.allow a.listing.now a.x a.w.now (sym c.ready.ensures ∙ c.if-not-ready.true))
 
 pub returns : goal.returns
 returns c =
     let a = c.args in
     c.same.ensures
-    ∙ sits-same a.allow a.listing.now a.x a.w.now
+    ∙ sits_same a.allow a.listing.now a.x a.w.now
     (ap (eqb (last_in a.x)) (sym c.requires)
     ∙ sym c.ends.ensures ∙ c.if-not-ends.false)
     (omega (arith, c.if-listing-to.false))

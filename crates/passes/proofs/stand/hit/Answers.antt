@@ -6,7 +6,7 @@ use mathlib.Core.Path.{◌≡◌, refl, sym, ap₂, ◌∙◌}
 use borrow.Author.Tests.{eq-eqb, ne_eqb}
 use Rattle.passes.specs.Chains.{chain, shown}
 use Rattle.passes.specs.Matching.{among, stands, hit_by}
-use Rattle.passes.proofs.ChainsLaws.{among_start, chain-none}
+use Rattle.passes.proofs.ChainsLaws.{among_start, chain_none}
 use Rattle.passes.proofs.stand.hit.Goals as goal
 
 pub returns-then-w-eq0 : goal.returns-then-w-eq0
@@ -26,7 +26,7 @@ returns-then-n-eq0 c =
     let none : (allow : Bool) → among allow (shown a.heads.now a.seats.now a.listing.now) a.w.now ≡ false =
     λ allow.
     among_start allow a.heads.now a.seats.now a.listing.now a.w.now c.head-n.result c.head-n.ensures.value
-    ∙ chain-none allow a.seats.now a.listing.now a.w.now c.head-n.result c.if-n-eq0.true
+    ∙ chain_none allow a.seats.now a.listing.now a.w.now c.head-n.result c.if-n-eq0.true
     in
     c.nobody-then-n-eq0.ensures
     ∙ rw (

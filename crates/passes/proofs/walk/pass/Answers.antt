@@ -25,20 +25,20 @@ use Rattle.passes.specs.NormalEvaluation.{counts}
 use Rattle.passes.specs.OnePass.{allows, member, taken}
 use Rattle.passes.specs.OneWalk.{walked_from, walked_of}
 use Rattle.passes.specs.declared.matching.Hits.{Hits}
-use Rattle.passes.proofs.ChainsLaws.{among_start, chain-none, chain-hit, chain-near, chain_more, far_below}
-use Rattle.passes.proofs.MatchingLaws.{matches-virtual, matches-among}
+use Rattle.passes.proofs.ChainsLaws.{among_start, chain_none, chain_hit, chain_near, chain_more, far_below}
+use Rattle.passes.proofs.MatchingLaws.{matches_virtual, matches_among}
 use Rattle.passes.proofs.WalkSteps.{taken_idle, taken_skipped, taken_missed, taken_full, taken_by}
-use Rattle.passes.proofs.WalkSteps.{names-skipped, names-other, names-counted, entries_end}
-use Rattle.passes.proofs.WalkSteps.{entries-bad, walk_start, walk_end, walk-on}
+use Rattle.passes.proofs.WalkSteps.{names_skipped, names_other, names_counted, entries_end}
+use Rattle.passes.proofs.WalkSteps.{entries_bad, walk_start, walk_end, walk_on}
 use Rattle.passes.proofs.walk.pass.Goals as goal
 use Rattle.passes.proofs.walk.pass.Goals.{Else-is_near, Else-is_virtual, Else-place-eq0, Joined-n-eq0, then-n-eq0, else-n-eq0+then-sits, else-n-eq0+else-sits+then-is_near, else-entries-test, then-entries-test+then-place-eq0}
 
 -- what was known earlier, as a place of its own
-abbrev up-1 : Else-is_virtual → Else-place-eq0
-up-1 c = record { before = c.before.before.before.before.before.before; type_inv = record { seats = c.shared_slice_known-3-1.given; listing = c.shared_slice_known-2-1.given; list = c.shared_slice_known-1.given } }
+abbrev up_1 : Else-is_virtual → Else-place-eq0
+up_1 c = record { before = c.before.before.before.before.before.before; type_inv = record { seats = c.shared_slice_known-3-1.given; listing = c.shared_slice_known-2-1.given; list = c.shared_slice_known-1.given } }
 
-abbrev up-2 : Joined-n-eq0 → Else-place-eq0
-up-2 c = record { before = c.before.before.before.before.before.before.before.before.before.before.before.before.before.before.before.before.before.before; type_inv = record { seats = c.shared_slice_known-3-1.given; listing = c.shared_slice_known-2-1.given; list = c.shared_slice_known-1.given } }
+abbrev up_2 : Joined-n-eq0 → Else-place-eq0
+up_2 c = record { before = c.before.before.before.before.before.before.before.before.before.before.before.before.before.before.before.before.before.before; type_inv = record { seats = c.shared_slice_known-3-1.given; listing = c.shared_slice_known-2-1.given; list = c.shared_slice_known-1.given } }
 
 -- ---- what is known where an entry stands
 abbrev Standing : Type 0
@@ -97,7 +97,7 @@ on p t named e f =
     let more = p.entries-test.true in (
       omega (arith, more),
       p.entries.invariant.1
-          ∙ walk-on (list_of p) (count_of p - turn_of p) (count_of p - (turn_of p + 1)) p.entries.place (ace_of p)
+          ∙ walk_on (list_of p) (count_of p - turn_of p) (count_of p - (turn_of p + 1)) p.entries.place (ace_of p)
           p.ace_by_length-e.ensures.value (omega (arith, more)) (kind_of p) (crowd_of_lem p) (hits_of_lem p) (tally_of p) t (named_of p)
           named
           p.if-place-eq0.false e f,
@@ -105,7 +105,7 @@ on p t named e f =
 
 -- the entry names no virtual identity
 other_in : (c : Else-is_virtual) → virtual (who_of
-    (up-1 c)) ≡ false
+    (up_1 c)) ≡ false
 other_in c = sym c.is_virtual.ensures ∙ c.if-is_virtual.false
 
 -- ---- the needs, in the order of the code
@@ -117,22 +117,22 @@ below c =
 
 -- what the search gave: whether one of those shown matches
 found : (c : Joined-n-eq0) →
-    c.if-n-eq0.hit ≡ among (allows (entry_of_lem (up-2 c))) (crowd_of_lem (up-2 c)) (who_of (up-2 c))
+    c.if-n-eq0.hit ≡ among (allows (entry_of_lem (up_2 c))) (crowd_of_lem (up_2 c)) (who_of (up_2 c))
 found c =
     let a = c.args in
-    let allow = allows (entry_of_lem (up-2 c)) in
+    let allow = allows (entry_of_lem (up_2 c)) in
     elim c.if-n-eq0.branch [
       | then-n-eq0 w ↦
-          w.hit-is ∙ sym (c.search.invariant.1 ∙ chain-none allow a.seats.now a.listing.now (who_of (up-2 c)) c.search.n w.if-n-eq0.true)
+          w.hit-is ∙ sym (c.search.invariant.1 ∙ chain_none allow a.seats.now a.listing.now (who_of (up_2 c)) c.search.n w.if-n-eq0.true)
       | else-n-eq0+then-sits w ↦
           w.hit-is
           ∙ sym (c.search.invariant.1
-          ∙ chain-hit allow a.seats.now a.listing.now (who_of (up-2 c)) c.search.n (c.search.n - 1) _ (omega (arith, w.if-n-eq0.false)) refl
+          ∙ chain_hit allow a.seats.now a.listing.now (who_of (up_2 c)) c.search.n (c.search.n - 1) _ (omega (arith, w.if-n-eq0.false)) refl
           (sym w.sits.ensures ∙ w.if-sits.true))
       | else-n-eq0+else-sits+then-is_near w ↦
           w.hit-is ∙ w.search_row-hit.ensures
           ∙ sym (c.search.invariant.1
-          ∙ chain-near allow a.seats.now a.listing.now (who_of (up-2 c)) c.search.n (c.search.n - 1) _ (omega (arith, w.if-n-eq0.false)) refl
+          ∙ chain_near allow a.seats.now a.listing.now (who_of (up_2 c)) c.search.n (c.search.n - 1) _ (omega (arith, w.if-n-eq0.false)) refl
           (sym w.sits.ensures ∙ w.if-sits.false)
           (ap (near c.search.n) (sym w.next-after.ensures.0) ∙ sym w.is_near.ensures ∙ w.if-is_near.true))
     ]
@@ -149,15 +149,15 @@ entries-init c =
 pub entries-preserved-then-not-counts : goal.entries-preserved-then-not-counts
 entries-preserved-then-not-counts c =
     let skip = not-false (has (ace_of (goal.at.entries-preserved-then-not-counts c).Else-place-eq0).flags 0x08) (sym c.counts.ensures ∙ c.if-not-counts.true) in
-    on (goal.at.entries-preserved-then-not-counts c).Else-place-eq0 (tally_of (goal.at.entries-preserved-then-not-counts c).Else-place-eq0) (named_of (goal.at.entries-preserved-then-not-counts c).Else-place-eq0) (names-skipped (named_of (goal.at.entries-preserved-then-not-counts c).Else-place-eq0) (entry_of_lem (goal.at.entries-preserved-then-not-counts c).Else-place-eq0) skip)
+    on (goal.at.entries-preserved-then-not-counts c).Else-place-eq0 (tally_of (goal.at.entries-preserved-then-not-counts c).Else-place-eq0) (named_of (goal.at.entries-preserved-then-not-counts c).Else-place-eq0) (names_skipped (named_of (goal.at.entries-preserved-then-not-counts c).Else-place-eq0) (entry_of_lem (goal.at.entries-preserved-then-not-counts c).Else-place-eq0) skip)
     (sym (taken_skipped (kind_of (goal.at.entries-preserved-then-not-counts c).Else-place-eq0) (crowd_of_lem (goal.at.entries-preserved-then-not-counts c).Else-place-eq0) (hits_of_lem (goal.at.entries-preserved-then-not-counts c).Else-place-eq0) (tally_of (goal.at.entries-preserved-then-not-counts c).Else-place-eq0) (entry_of_lem (goal.at.entries-preserved-then-not-counts c).Else-place-eq0) skip))
 
 pub entries-preserved-then-is_virtual : goal.entries-preserved-then-is_virtual
 entries-preserved-then-is_virtual c =
     let counted = not-true (has (ace_of (goal.at.entries-preserved-then-is_virtual c).Else-place-eq0).flags 0x08) (sym c.counts.ensures ∙ c.if-not-counts.false) in
-    let mine = matches-virtual (allows (entry_of_lem (goal.at.entries-preserved-then-is_virtual c).Else-place-eq0)) (crowd_of_lem (goal.at.entries-preserved-then-is_virtual c).Else-place-eq0) (who_of (goal.at.entries-preserved-then-is_virtual c).Else-place-eq0) (hits_of_lem (goal.at.entries-preserved-then-is_virtual c).Else-place-eq0)
+    let mine = matches_virtual (allows (entry_of_lem (goal.at.entries-preserved-then-is_virtual c).Else-place-eq0)) (crowd_of_lem (goal.at.entries-preserved-then-is_virtual c).Else-place-eq0) (who_of (goal.at.entries-preserved-then-is_virtual c).Else-place-eq0) (hits_of_lem (goal.at.entries-preserved-then-is_virtual c).Else-place-eq0)
     (sym c.is_virtual.ensures ∙ c.if-is_virtual.true) in
-    on (goal.at.entries-preserved-then-is_virtual c).Else-place-eq0 c.step-t.result c.names-named.result (c.names-named.ensures ∙ names-counted
+    on (goal.at.entries-preserved-then-is_virtual c).Else-place-eq0 c.step-t.result c.names-named.result (c.names-named.ensures ∙ names_counted
     (named_of (goal.at.entries-preserved-then-is_virtual c).Else-place-eq0) (entry_of_lem (goal.at.entries-preserved-then-is_virtual c).Else-place-eq0) counted)
     (c.step-t.ensures
     ∙ taken_by (kind_of (goal.at.entries-preserved-then-is_virtual c).Else-place-eq0) (crowd_of_lem (goal.at.entries-preserved-then-is_virtual c).Else-place-eq0) (hits_of_lem (goal.at.entries-preserved-then-is_virtual c).Else-place-eq0) (tally_of (goal.at.entries-preserved-then-is_virtual c).Else-place-eq0) (entry_of_lem (goal.at.entries-preserved-then-is_virtual c).Else-place-eq0) c.speaks-spoken.result c.entry_mask-mask.result.0 c.entry_mask-mask.ensures counted
@@ -165,7 +165,7 @@ entries-preserved-then-is_virtual c =
 
 pub entries-preserved-then-t-all : goal.entries-preserved-then-t-all
 entries-preserved-then-t-all c =
-    on (goal.at.entries-preserved-then-t-all c).Else-place-eq0 (tally_of (goal.at.entries-preserved-then-t-all c).Else-place-eq0) (named_of (goal.at.entries-preserved-then-t-all c).Else-place-eq0) (names-other (named_of (goal.at.entries-preserved-then-t-all c).Else-place-eq0) (entry_of_lem (goal.at.entries-preserved-then-t-all c).Else-place-eq0) (other_in (goal.at.entries-preserved-then-t-all c).Else-is_virtual))
+    on (goal.at.entries-preserved-then-t-all c).Else-place-eq0 (tally_of (goal.at.entries-preserved-then-t-all c).Else-place-eq0) (named_of (goal.at.entries-preserved-then-t-all c).Else-place-eq0) (names_other (named_of (goal.at.entries-preserved-then-t-all c).Else-place-eq0) (entry_of_lem (goal.at.entries-preserved-then-t-all c).Else-place-eq0) (other_in (goal.at.entries-preserved-then-t-all c).Else-is_virtual))
     (sym (taken_full (kind_of (goal.at.entries-preserved-then-t-all c).Else-place-eq0) (crowd_of_lem (goal.at.entries-preserved-then-t-all c).Else-place-eq0) (hits_of_lem (goal.at.entries-preserved-then-t-all c).Else-place-eq0) (tally_of (goal.at.entries-preserved-then-t-all c).Else-place-eq0) (entry_of_lem (goal.at.entries-preserved-then-t-all c).Else-place-eq0)
     (c.if-t-all.true ∙ c.all_bits-all.ensures)))
 
@@ -175,14 +175,14 @@ entries-preserved-then-first-eq0 c =
     let allow = allows (entry_of_lem (goal.at.entries-preserved-then-first-eq0 c).Else-place-eq0) in
     let other = other_in (goal.at.entries-preserved-then-first-eq0 c).Else-is_virtual in
     let none = among_start allow a.heads.now a.seats.now a.listing.now (who_of (goal.at.entries-preserved-then-first-eq0 c).Else-place-eq0) c.head-first.result c.head-first.ensures.value
-    ∙ chain-none allow a.seats.now a.listing.now (who_of (goal.at.entries-preserved-then-first-eq0 c).Else-place-eq0) c.head-first.result c.if-first-eq0.true in
-    on (goal.at.entries-preserved-then-first-eq0 c).Else-place-eq0 (tally_of (goal.at.entries-preserved-then-first-eq0 c).Else-place-eq0) (named_of (goal.at.entries-preserved-then-first-eq0 c).Else-place-eq0) (names-other (named_of (goal.at.entries-preserved-then-first-eq0 c).Else-place-eq0) (entry_of_lem (goal.at.entries-preserved-then-first-eq0 c).Else-place-eq0) other)
+    ∙ chain_none allow a.seats.now a.listing.now (who_of (goal.at.entries-preserved-then-first-eq0 c).Else-place-eq0) c.head-first.result c.if-first-eq0.true in
+    on (goal.at.entries-preserved-then-first-eq0 c).Else-place-eq0 (tally_of (goal.at.entries-preserved-then-first-eq0 c).Else-place-eq0) (named_of (goal.at.entries-preserved-then-first-eq0 c).Else-place-eq0) (names_other (named_of (goal.at.entries-preserved-then-first-eq0 c).Else-place-eq0) (entry_of_lem (goal.at.entries-preserved-then-first-eq0 c).Else-place-eq0) other)
     (sym (taken_missed (kind_of (goal.at.entries-preserved-then-first-eq0 c).Else-place-eq0) (crowd_of_lem (goal.at.entries-preserved-then-first-eq0 c).Else-place-eq0) (hits_of_lem (goal.at.entries-preserved-then-first-eq0 c).Else-place-eq0) (tally_of (goal.at.entries-preserved-then-first-eq0 c).Else-place-eq0) (entry_of_lem (goal.at.entries-preserved-then-first-eq0 c).Else-place-eq0)
-    (matches-among allow (crowd_of_lem (goal.at.entries-preserved-then-first-eq0 c).Else-place-eq0) (who_of (goal.at.entries-preserved-then-first-eq0 c).Else-place-eq0) (hits_of_lem (goal.at.entries-preserved-then-first-eq0 c).Else-place-eq0) other ∙ none)))
+    (matches_among allow (crowd_of_lem (goal.at.entries-preserved-then-first-eq0 c).Else-place-eq0) (who_of (goal.at.entries-preserved-then-first-eq0 c).Else-place-eq0) (hits_of_lem (goal.at.entries-preserved-then-first-eq0 c).Else-place-eq0) other ∙ none)))
 
 pub entries-preserved-then-idle : goal.entries-preserved-then-idle
 entries-preserved-then-idle c =
-    on (goal.at.entries-preserved-then-idle c).Else-place-eq0 (tally_of (goal.at.entries-preserved-then-idle c).Else-place-eq0) (named_of (goal.at.entries-preserved-then-idle c).Else-place-eq0) (names-other (named_of (goal.at.entries-preserved-then-idle c).Else-place-eq0) (entry_of_lem (goal.at.entries-preserved-then-idle c).Else-place-eq0) (other_in
+    on (goal.at.entries-preserved-then-idle c).Else-place-eq0 (tally_of (goal.at.entries-preserved-then-idle c).Else-place-eq0) (named_of (goal.at.entries-preserved-then-idle c).Else-place-eq0) (names_other (named_of (goal.at.entries-preserved-then-idle c).Else-place-eq0) (entry_of_lem (goal.at.entries-preserved-then-idle c).Else-place-eq0) (other_in
     (goal.at.entries-preserved-then-idle c).Else-is_virtual))
     (sym (taken_idle (kind_of (goal.at.entries-preserved-then-idle c).Else-place-eq0) (crowd_of_lem (goal.at.entries-preserved-then-idle c).Else-place-eq0) (hits_of_lem (goal.at.entries-preserved-then-idle c).Else-place-eq0) (tally_of (goal.at.entries-preserved-then-idle c).Else-place-eq0) (entry_of_lem (goal.at.entries-preserved-then-idle c).Else-place-eq0)
     (ap (λ (n : ℕ). idle (tally_of (goal.at.entries-preserved-then-idle c).Else-place-eq0) (ace_of (goal.at.entries-preserved-then-idle c).Else-place-eq0).flags n) (sym c.entry_mask-mask-in-entries.ensures) ∙ (sym c.idle.ensures ∙ c.if-idle.true))))
@@ -226,8 +226,8 @@ pub entries-preserved : goal.entries-preserved
 entries-preserved c =
     let other = other_in (goal.at.entries-preserved c).Else-is_virtual in
     let counted = not-true (has (ace_of (goal.at.entries-preserved c).Else-place-eq0).flags 0x08) (sym c.counts.ensures ∙ c.if-not-counts.false) in
-    let mine = matches-among (allows (entry_of_lem (goal.at.entries-preserved c).Else-place-eq0)) (crowd_of_lem (goal.at.entries-preserved c).Else-place-eq0) (who_of (goal.at.entries-preserved c).Else-place-eq0) (hits_of_lem (goal.at.entries-preserved c).Else-place-eq0) other in
-    on (goal.at.entries-preserved c).Else-place-eq0 c.step-t-in-entries.result (named_of (goal.at.entries-preserved c).Else-place-eq0) (names-other (named_of (goal.at.entries-preserved c).Else-place-eq0) (entry_of_lem (goal.at.entries-preserved c).Else-place-eq0) other)
+    let mine = matches_among (allows (entry_of_lem (goal.at.entries-preserved c).Else-place-eq0)) (crowd_of_lem (goal.at.entries-preserved c).Else-place-eq0) (who_of (goal.at.entries-preserved c).Else-place-eq0) (hits_of_lem (goal.at.entries-preserved c).Else-place-eq0) other in
+    on (goal.at.entries-preserved c).Else-place-eq0 c.step-t-in-entries.result (named_of (goal.at.entries-preserved c).Else-place-eq0) (names_other (named_of (goal.at.entries-preserved c).Else-place-eq0) (entry_of_lem (goal.at.entries-preserved c).Else-place-eq0) other)
     (c.step-t-in-entries.ensures
     ∙ taken_by (kind_of (goal.at.entries-preserved c).Else-place-eq0) (crowd_of_lem (goal.at.entries-preserved c).Else-place-eq0) (hits_of_lem (goal.at.entries-preserved c).Else-place-eq0) (tally_of (goal.at.entries-preserved c).Else-place-eq0) (entry_of_lem (goal.at.entries-preserved c).Else-place-eq0) c.speaks-spoken-in-entries.result c.entry_mask-mask-in-entries.result.0 c.entry_mask-mask-in-entries.ensures counted
     (c.speaks-spoken-in-entries.ensures ∙ ap (λ (t : Bool). t && admitted_of (goal.at.entries-preserved c).Else-place-eq0) (found (goal.at.entries-preserved c).Joined-n-eq0 ∙ sym mine)))
@@ -240,7 +240,7 @@ returns c =
     elim c.entries-test.branch [
       | else-entries-test w ↦ entries_end a.list.now (n - c.entries.k) c.entries.place (omega (arith, w.entries-test.false))
       | then-entries-test+then-place-eq0 w ↦
-          entries-bad a.list.now (n - c.entries.k) (n - (c.entries.k + 1)) c.entries.place w.ace_by_length-e.result w.ace_by_length-e.ensures.value
+          entries_bad a.list.now (n - c.entries.k) (n - (c.entries.k + 1)) c.entries.place w.ace_by_length-e.result w.ace_by_length-e.ensures.value
           (omega (arith, w.entries-test.true)) w.if-place-eq0.true
     ] in
     sym (c.entries.invariant.1

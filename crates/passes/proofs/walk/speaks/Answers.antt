@@ -5,7 +5,7 @@ use mathlib.Core.Bool.{Bool, true, false, cond, ◌&&◌}
 use mathlib.Core.Path.{◌≡◌, sym, ◌∙◌}
 use Prim.Native.Nat.{ℕ}
 use Rattle.conditions.specs.Membership.{admits}
-use Rattle.conditions.proofs.MembershipLaws.{admits-none}
+use Rattle.conditions.proofs.MembershipLaws.{admits_none}
 use Rattle.lists.specs.Acl.{callback}
 use Rattle.passes.proofs.walk.speaks.Goals as goal
 
@@ -14,7 +14,7 @@ missed hit r h = rw h
 
 module _ (f : List ℕ → Bool) (s : List ℕ) (hit call : Bool) where
   plain : hit ≡ true → call ≡ false → (hit && admits f (cond call s [])) ≡ true
-  plain h k = rw (h, k) (admits-none f)
+  plain h k = rw (h, k) (admits_none f)
 
   conditional : hit ≡ true → call ≡ true → (hit && admits f (cond call s [])) ≡ admits f s
   conditional h k = rw (h, k)

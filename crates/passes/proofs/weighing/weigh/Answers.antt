@@ -8,8 +8,8 @@ use Rattle.conditions.specs.Condition.{zeros, step_at}
 use Rattle.conditions.specs.Stack.{step_of}
 use Rattle.conditions.specs.Membership.{told_of}
 use Rattle.conditions.proofs.PaddingLaws.{part_rest}
-use Rattle.conditions.proofs.RunLaws.{Coded, unopened, running-start, running-end, running-padded, running-stained}
-use Rattle.conditions.proofs.RunLaws.{running-broken, running-foreign, running-past, running-on, holds_coded}
+use Rattle.conditions.proofs.RunLaws.{Coded, unopened, running_start, running_end, running_padded, running_stained}
+use Rattle.conditions.proofs.RunLaws.{running_broken, running_foreign, running_past, running_on, holds_coded}
 use Rattle.passes.specs.Chains.{shown}
 use Rattle.passes.specs.Matching.{matches}
 use Rattle.passes.proofs.weighing.weigh.Goals as goal
@@ -25,7 +25,7 @@ loop-at-init c =
     let a = c.args in
     let f = matches true (shown a.heads.now a.seats.now a.listing.now) a.hits in
     let l = a.s.now in (
-      running-start (told_of f l) l (Coded (record { word = 0; from = 0; to = 0 })) (omega arith) refl,
+      running_start (told_of f l) l (Coded (record { word = 0; from = 0; to = 0 })) (omega arith) refl,
       (omega arith, omega arith),
     )
 
@@ -37,7 +37,7 @@ returns-then-zeros c =
     let tell = told_of f l in
     let z : zeros (drop c.loop-at.at l) ≡ true =
     ap zeros (sym (part_rest l c.loop-at.at)) ∙ sym c.zeros.ensures ∙ c.if-zeros.true in
-    sym (running-padded tell l (Coded c.loop-at.m) c.loop-at.at c.loop-at.invariant.0 (omega arith) (omega arith) z _
+    sym (running_padded tell l (Coded c.loop-at.m) c.loop-at.at c.loop-at.invariant.0 (omega arith) (omega arith) z _
     (λ st q. c.ended.ensures st (holds_coded c.loop-at.m st q)))
 
 pub returns-then-s-at-eq0 : goal.returns-then-s-at-eq0
@@ -47,7 +47,7 @@ returns-then-s-at-eq0 c =
     let l = a.s.now in
     let tell = told_of f l in
     let z : zeros (drop c.loop-at.at l) ≡ false = ap zeros (sym (part_rest l c.loop-at.at)) ∙ sym c.zeros.ensures ∙ c.if-zeros.false in
-    sym (running-stained tell l (Coded c.loop-at.m) c.loop-at.at c.loop-at.invariant.0 (omega arith) (omega arith) z)
+    sym (running_stained tell l (Coded c.loop-at.m) c.loop-at.at c.loop-at.invariant.0 (omega arith) (omega arith) z)
 
 pub returns-in-Broken : goal.returns-in-Broken
 returns-in-Broken c =
@@ -55,7 +55,7 @@ returns-in-Broken c =
     let f = matches true (shown a.heads.now a.seats.now a.listing.now) a.hits in
     let l = a.s.now in
     let tell = told_of f l in
-    sym (running-broken tell l (Coded c.loop-at.m) c.loop-at.at c.loop-at.invariant.0 (omega arith) (λ q. omega arith)
+    sym (running_broken tell l (Coded c.loop-at.m) c.loop-at.at c.loop-at.invariant.0 (omega arith) (λ q. omega arith)
     (λ st q. sym c.in-Broken.is ∙ c.step.ensures st (holds_coded c.loop-at.m st q)
     ∙ ap (λ (t : Bool). step_of (step_at t l c.loop-at.at st)) (c.told-t.ensures st q)))
 
@@ -65,7 +65,7 @@ returns-in-Foreign c =
     let f = matches true (shown a.heads.now a.seats.now a.listing.now) a.hits in
     let l = a.s.now in
     let tell = told_of f l in
-    sym (running-foreign tell l (Coded c.loop-at.m) c.loop-at.at c.loop-at.invariant.0 (omega arith) (λ q. omega arith)
+    sym (running_foreign tell l (Coded c.loop-at.m) c.loop-at.at c.loop-at.invariant.0 (omega arith) (λ q. omega arith)
     (λ st q. sym c.in-Foreign.is ∙ c.step.ensures st (holds_coded c.loop-at.m st q)
     ∙ ap (λ (t : Bool). step_of (step_at t l c.loop-at.at st)) (c.told-t.ensures st q)))
 
@@ -77,7 +77,7 @@ loop-at-smaller c =
     let tell = told_of f l in
     let p = c.in-On.next in
     let m = c.in-On.after in
-    let b = running-past tell l (Coded c.loop-at.m) c.loop-at.at p m c.loop-at.invariant.0
+    let b = running_past tell l (Coded c.loop-at.m) c.loop-at.at p m c.loop-at.invariant.0
     (λ st q. sym c.in-On.is ∙ c.step.ensures st (holds_coded c.loop-at.m st q)
     ∙ ap (λ (t : Bool). step_of (step_at t l c.loop-at.at st)) (c.told-t.ensures st q)) in
     omega (arith, b.0)
@@ -90,10 +90,10 @@ loop-at-preserved c =
     let tell = told_of f l in
     let p = c.in-On.next in
     let m = c.in-On.after in (
-      running-on tell l (Coded c.loop-at.m) c.loop-at.at p m (Coded m) (λ st q. q) c.loop-at.invariant.0 (omega arith) (λ q. omega arith)
+      running_on tell l (Coded c.loop-at.m) c.loop-at.at p m (Coded m) (λ st q. q) c.loop-at.invariant.0 (omega arith) (λ q. omega arith)
           (λ st q. sym c.in-On.is ∙ c.step.ensures st (holds_coded c.loop-at.m st q)
           ∙ ap (λ (t : Bool). step_of (step_at t l c.loop-at.at st)) (c.told-t.ensures st q)),
-      (running-past tell l (Coded c.loop-at.m) c.loop-at.at p m c.loop-at.invariant.0
+      (running_past tell l (Coded c.loop-at.m) c.loop-at.at p m c.loop-at.invariant.0
           (λ st q. sym c.in-On.is ∙ c.step.ensures st (holds_coded c.loop-at.m st q)
           ∙ ap (λ (t : Bool). step_of (step_at t l c.loop-at.at st)) (c.told-t.ensures st q))).1,
     )
@@ -104,4 +104,4 @@ returns c =
     let f = matches true (shown a.heads.now a.seats.now a.listing.now) a.hits in
     let l = a.s.now in
     let tell = told_of f l in
-    sym (running-end tell l (Coded c.loop-at.m) c.loop-at.at c.loop-at.invariant.0 (omega arith) _ (λ st q. c.ended-2.ensures st (holds_coded c.loop-at.m st q)))
+    sym (running_end tell l (Coded c.loop-at.m) c.loop-at.at c.loop-at.invariant.0 (omega arith) _ (λ st q. c.ended-2.ensures st (holds_coded c.loop-at.m st q)))

@@ -4,14 +4,14 @@
 use mathlib.Core.Path.{◌≡◌}
 use mathlib.Core.Bool.{Bool, true, false}
 use Rattle.conditions.specs.Scanning.{is_broken}
-use Rattle.policy.proofs.OneRuleSteps.{applies_in, list_in, maybe_in, told, rule-none, rule-applies, rule-dacl}
-use Rattle.policy.proofs.OneRuleSteps.{rule-sacl, rule-staged, rule-last, rule_found}
+use Rattle.policy.proofs.OneRuleSteps.{applies_in, list_in, maybe_in, told, rule_none, rule_applies, rule_dacl}
+use Rattle.policy.proofs.OneRuleSteps.{rule_sacl, rule_staged, rule_last, rule_found}
 use Rattle.policy.proofs.one_rule.rule_of.Goals as goal
 use Rattle.policy.proofs.one_rule.rule_of.Goals.{After-is_broken, After-is_broken-2, After-is_broken-3, After-is_broken-4, After-is_broken-5}
 
 -- what was known earlier, as a place of its own
-abbrev up-1 : After-is_broken-2 → After-is_broken
-up-1 c = record { before = c.before.before.before.before; type_inv = record { s = c.shared_slice_known-1.given } }
+abbrev up_1 : After-is_broken-2 → After-is_broken
+up_1 c = record { before = c.before.before.before.before; type_inv = record { s = c.shared_slice_known-1.given } }
 
 applies_told : (c : After-is_broken) (t : Bool) → c.is_broken.result ≡ t →
     is_broken (applies_in c.args.s.now c.args.applies) ≡ t
@@ -20,7 +20,7 @@ applies_told c t =
 
 -- applies_to is not broken
 fine : (c : After-is_broken-2) → is_broken (applies_in c.args.s.now c.args.applies) ≡ false
-fine c = applies_told (up-1 c) false c.if-is_broken.false
+fine c = applies_told (up_1 c) false c.if-is_broken.false
 
 dacl_told : (c : After-is_broken-2) (t : Bool) → c.is_broken-2.result ≡ t →
     is_broken (list_in c.args.s.now c.args.dacl) ≡ t
@@ -43,34 +43,34 @@ last_told c t =
 
 pub returns-then-is_broken : goal.returns-then-is_broken
 returns-then-is_broken c =
-    let a = c.args in let whole = rule-none a.s.now a.applies a.dacl a.sacl a.staged a.last c.no_rule.result c.no_rule.ensures
-    (rule-applies a.s.now a.applies a.dacl a.sacl a.staged a.last (applies_told (goal.at.returns-then-is_broken c).After-is_broken true c.if-is_broken.true)) in record { value = whole.0; placed = whole.1 }
+    let a = c.args in let whole = rule_none a.s.now a.applies a.dacl a.sacl a.staged a.last c.no_rule.result c.no_rule.ensures
+    (rule_applies a.s.now a.applies a.dacl a.sacl a.staged a.last (applies_told (goal.at.returns-then-is_broken c).After-is_broken true c.if-is_broken.true)) in record { value = whole.0; placed = whole.1 }
 
 pub returns-then-is_broken-2 : goal.returns-then-is_broken-2
 returns-then-is_broken-2 c =
-    let a = c.args in let whole = rule-none a.s.now a.applies a.dacl a.sacl a.staged a.last c.no_rule-then-is_broken-2.result c.no_rule-then-is_broken-2.ensures
-    (rule-dacl a.s.now a.applies a.dacl a.sacl a.staged a.last (fine (goal.at.returns-then-is_broken-2 c).After-is_broken-2)
+    let a = c.args in let whole = rule_none a.s.now a.applies a.dacl a.sacl a.staged a.last c.no_rule-then-is_broken-2.result c.no_rule-then-is_broken-2.ensures
+    (rule_dacl a.s.now a.applies a.dacl a.sacl a.staged a.last (fine (goal.at.returns-then-is_broken-2 c).After-is_broken-2)
     (dacl_told (goal.at.returns-then-is_broken-2 c).After-is_broken-2 true c.if-is_broken-2.true)) in record { value = whole.0; placed = whole.1 }
 
 pub returns-then-is_broken-3 : goal.returns-then-is_broken-3
 returns-then-is_broken-3 c =
-    let a = c.args in let whole = rule-none a.s.now a.applies a.dacl a.sacl a.staged a.last c.no_rule-then-is_broken-3.result c.no_rule-then-is_broken-3.ensures
-    (rule-sacl a.s.now a.applies a.dacl a.sacl a.staged a.last (fine (goal.at.returns-then-is_broken-3 c).After-is_broken-2)
+    let a = c.args in let whole = rule_none a.s.now a.applies a.dacl a.sacl a.staged a.last c.no_rule-then-is_broken-3.result c.no_rule-then-is_broken-3.ensures
+    (rule_sacl a.s.now a.applies a.dacl a.sacl a.staged a.last (fine (goal.at.returns-then-is_broken-3 c).After-is_broken-2)
     (dacl_told (goal.at.returns-then-is_broken-3 c).After-is_broken-2 false c.if-is_broken-2.false)
     (sacl_told (goal.at.returns-then-is_broken-3 c).After-is_broken-3 true c.if-is_broken-3.true)) in record { value = whole.0; placed = whole.1 }
 
 pub returns-then-is_broken-4 : goal.returns-then-is_broken-4
 returns-then-is_broken-4 c =
-    let a = c.args in let whole = rule-none a.s.now a.applies a.dacl a.sacl a.staged a.last c.no_rule-then-is_broken-4.result c.no_rule-then-is_broken-4.ensures
-    (rule-staged a.s.now a.applies a.dacl a.sacl a.staged a.last (fine (goal.at.returns-then-is_broken-4 c).After-is_broken-2)
+    let a = c.args in let whole = rule_none a.s.now a.applies a.dacl a.sacl a.staged a.last c.no_rule-then-is_broken-4.result c.no_rule-then-is_broken-4.ensures
+    (rule_staged a.s.now a.applies a.dacl a.sacl a.staged a.last (fine (goal.at.returns-then-is_broken-4 c).After-is_broken-2)
     (dacl_told (goal.at.returns-then-is_broken-4 c).After-is_broken-2 false c.if-is_broken-2.false)
     (sacl_told (goal.at.returns-then-is_broken-4 c).After-is_broken-3 false c.if-is_broken-3.false)
     (staged_told (goal.at.returns-then-is_broken-4 c).After-is_broken-4 true c.if-is_broken-4.true)) in record { value = whole.0; placed = whole.1 }
 
 pub returns-then-is_broken-5 : goal.returns-then-is_broken-5
 returns-then-is_broken-5 c =
-    let a = c.args in let whole = rule-none a.s.now a.applies a.dacl a.sacl a.staged a.last c.no_rule-then-is_broken-5.result c.no_rule-then-is_broken-5.ensures
-    (rule-last a.s.now a.applies a.dacl a.sacl a.staged a.last (fine (goal.at.returns-then-is_broken-5 c).After-is_broken-2)
+    let a = c.args in let whole = rule_none a.s.now a.applies a.dacl a.sacl a.staged a.last c.no_rule-then-is_broken-5.result c.no_rule-then-is_broken-5.ensures
+    (rule_last a.s.now a.applies a.dacl a.sacl a.staged a.last (fine (goal.at.returns-then-is_broken-5 c).After-is_broken-2)
     (dacl_told (goal.at.returns-then-is_broken-5 c).After-is_broken-2 false c.if-is_broken-2.false)
     (sacl_told (goal.at.returns-then-is_broken-5 c).After-is_broken-3 false c.if-is_broken-3.false)
     (staged_told (goal.at.returns-then-is_broken-5 c).After-is_broken-4 false c.if-is_broken-4.false)

@@ -10,7 +10,7 @@ use Rattle.passes.specs.Chains.{shown}
 use Rattle.policy.specs.Policy.{bytes_of}
 use Rattle.policy.specs.Rules.{there}
 use Rattle.policy.specs.ByLengths.{lists_by_lengths}
-use Rattle.policy.proofs.RulesSteps.{section_there, narrowed-plain, narrowed-staged}
+use Rattle.policy.proofs.RulesSteps.{section_there, narrowed_plain, narrowed_staged}
 use Rattle.policy.proofs.rules.narrowed.Goals as goal
 use Rattle.policy.proofs.rules.narrowed.Goals.{After-either-has_staged_sacl}
 
@@ -42,7 +42,7 @@ slice_bounds-result-end-then-start-end c = let p = c.requires in omega (arith, p
 pub returns-then-start-end : goal.returns-then-start-end
 returns-then-start-end c =
     let a = c.args in
-    narrowed-staged a.kind (shown a.heads.now a.seats.now a.listing.now) a.hits a.privileges a.before
+    narrowed_staged a.kind (shown a.heads.now a.seats.now a.listing.now) a.hits a.privileges a.before
     (lists_by_lengths a.s.now a.r)
     c.result-e.result.0 c.result-e.ensures c.either-has_sacl.result c.either-has_staged_sacl.result
     (audits (goal.at.returns-then-start-end c).After-either-has_staged_sacl) (stages (goal.at.returns-then-start-end c).After-either-has_staged_sacl)
@@ -52,7 +52,7 @@ returns-then-start-end c =
 pub returns : goal.returns
 returns c =
     let a = c.args in
-    narrowed-plain a.kind (shown a.heads.now a.seats.now a.listing.now) a.hits a.privileges a.before
+    narrowed_plain a.kind (shown a.heads.now a.seats.now a.listing.now) a.hits a.privileges a.before
     (lists_by_lengths a.s.now a.r)
     c.result-e.result.0 c.result-e.ensures c.either-has_sacl.result c.either-has_staged_sacl.result
     (audits (goal.at.returns c).After-either-has_staged_sacl) (stages (goal.at.returns c).After-either-has_staged_sacl)

@@ -6,7 +6,7 @@ use lib.ListN.{length}
 use borrow.Author.Tests.{not-true, not-false}
 use Rattle.questions.specs.Blobs.{question_in}
 use Rattle.questions.specs.QuestionFile.{file_report}
-use Rattle.questions.proofs.FileSteps.{file_long, file-misshapen, file_answered, posed_none, posed_some}
+use Rattle.questions.proofs.FileSteps.{file_long, file_misshapen_lem, file_answered, posed_none, posed_some}
 use Rattle.access.proofs.ReportLaws.{lent_refused}
 use Rattle.questions.proofs.file.file_report.Goals as goal
 
@@ -21,7 +21,7 @@ returns-then-not-p c =
     let a = c.args in
     let nothing = posed_none a.s.now c.parse-p.result c.parse-p.ensures.s_value (not-true c.parse-p.result.ok c.if-not-p.true) in
     lent_refused a.lent (length a.out.now) 12 (file_report a.s.now) a.out.now _ _
-    (file-misshapen a.s.now (omega (arith, c.if-s-gt65536.false)) nothing) c.untraced-then-not-p.ensures.0 c.untraced-then-not-p.ensures.1 refl
+    (file_misshapen_lem a.s.now (omega (arith, c.if-s-gt65536.false)) nothing) c.untraced-then-not-p.ensures.0 c.untraced-then-not-p.ensures.1 refl
 
 pub returns : goal.returns
 returns c =

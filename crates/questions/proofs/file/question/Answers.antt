@@ -2,11 +2,11 @@
 -- Assumes nothing.
 use mathlib.Core.Path.{◌∙◌}
 use Rattle.questions.specs.QuestionFile.{file_report}
-use Rattle.questions.proofs.FileSteps.{file-told}
+use Rattle.questions.proofs.FileSteps.{file_told}
 use Rattle.access.proofs.ReportLaws.{unlent_answer}
 use Rattle.questions.proofs.file.question.Goals as goal
 
 pub returns : goal.returns
 returns c =
     let s = c.args.s.now in
-    c.file_report-t.ensures.answer ∙ unlent_answer _ (file_report s) ∙ file-told s
+    c.file_report-t.ensures.answer ∙ unlent_answer _ (file_report s) ∙ file_told s

@@ -8,7 +8,7 @@ use borrow.Author.Rules.{rules}
 use lib.ListN.{length}
 use Rattle.records.specs.Unpacking.{room_fits}
 use Rattle.records.specs.TokenRecord.{read_record}
-use Rattle.records.proofs.RecordAnswer.{kept_fit, unpacked_unfit, unpacked-none, unpacked-some}
+use Rattle.records.proofs.RecordAnswer.{kept_fit, unpacked_unfit, unpacked_none, unpacked_some}
 use Rattle.records.proofs.CleanLaws.{unclaimed}
 use Rattle.records.proofs.RoomLaws.{room_whole}
 use Rattle.records.proofs.unpacking.unpack.Goals as goal
@@ -31,7 +31,7 @@ returns-then-n-eq0 c =
     let a = c.args in
     let long : length c.unpack_record-w.new.out ≡ length a.out.now = search rules in
     record {
-      unpacked = unpacked-none _ (fit (goal.at.returns-then-n-eq0 c).Else-not-has_room) a.out.now c.unpack_record-w.new.out c.unpack_record-w.result.length (read_record a.s.now) _ c.unpack_record-w.ensures.unpacks
+      unpacked = unpacked_none _ (fit (goal.at.returns-then-n-eq0 c).Else-not-has_room) a.out.now c.unpack_record-w.new.out c.unpack_record-w.result.length (read_record a.s.now) _ c.unpack_record-w.ensures.unpacks
           c.if-n-eq0.true c.clear-then-n-eq0.ensures long;
       length_in_bounds = c.unpack_record-w.ensures.length_in_bounds;
       read_keeping = λ e. kept_fit _ (read_record a.s.now) (fit (goal.at.returns-then-n-eq0 c).Else-not-has_room) (c.unpack_record-w.ensures.read_keeping e);
@@ -40,4 +40,4 @@ returns-then-n-eq0 c =
 pub returns-else-n-eq0 : goal.returns-else-n-eq0
 returns-else-n-eq0 c =
     let a = c.args in
-    record { unpacked = unpacked-some _ (fit (goal.at.returns-else-n-eq0 c).Else-not-has_room) a.out.now _ c.unpack_record-w.result.length (read_record a.s.now) c.unpack_record-w.ensures.unpacks c.if-n-eq0.false; length_in_bounds = c.unpack_record-w.ensures.length_in_bounds; read_keeping = λ e. kept_fit _ (read_record a.s.now) (fit (goal.at.returns-else-n-eq0 c).Else-not-has_room) (c.unpack_record-w.ensures.read_keeping e) }
+    record { unpacked = unpacked_some _ (fit (goal.at.returns-else-n-eq0 c).Else-not-has_room) a.out.now _ c.unpack_record-w.result.length (read_record a.s.now) c.unpack_record-w.ensures.unpacks c.if-n-eq0.false; length_in_bounds = c.unpack_record-w.ensures.length_in_bounds; read_keeping = λ e. kept_fit _ (read_record a.s.now) (fit (goal.at.returns-else-n-eq0 c).Else-not-has_room) (c.unpack_record-w.ensures.read_keeping e) }

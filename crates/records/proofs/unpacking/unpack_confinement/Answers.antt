@@ -5,9 +5,9 @@ use mathlib.Core.Bool.{false}
 use native.Mathlib.Omega.{arith}
 use lib.ListN.{length}
 use Rattle.records.specs.Unpacking.{copied, member_copied, capabilities_copied, confinement_copied}
-use Rattle.records.proofs.UnpackLaws.{counted-refused, counted-done}
-use Rattle.records.proofs.StepLaws.{after-refused, after-done}
-use Rattle.records.proofs.RoomLaws.{Counted, room-left, room_same, refused_within, counted_room, within_after, limited_past}
+use Rattle.records.proofs.UnpackLaws.{counted_refused, counted_done}
+use Rattle.records.proofs.StepLaws.{after_refused, after_done}
+use Rattle.records.proofs.RoomLaws.{Counted, room_left, room_same, refused_within, counted_room, within_after, limited_past}
 use borrow.Author.Rules.{rules}
 use Rattle.records.proofs.unpacking.unpack_confinement.Goals as goal
 use Rattle.records.proofs.unpacking.unpack_confinement.Goals.{After-out-2-1, Else-not-n}
@@ -26,17 +26,17 @@ long : (c : After-out-2-1) → length c.put_little.new.out ≡ length c.args.out
 long c = search rules
 
 pub unpack_identity-w-requires : goal.unpack_identity-w-requires
-unpack_identity-w-requires c = room-left c.requires (omega arith) (omega arith)
+unpack_identity-w-requires c = room_left c.requires (omega arith) (omega arith)
 
 pub returns-then-not-w : goal.returns-then-not-w
 unfolding confinement_copied
-returns-then-not-w c = record { out_after = sym (after-refused _ _ _ c.unpack_identity-w.result _ c.unpack_identity-w.ensures.out_after (capabilities_copied _) c.if-not-w.true); within = refused_within }
+returns-then-not-w c = record { out_after = sym (after_refused _ _ _ c.unpack_identity-w.result _ c.unpack_identity-w.ensures.out_after (capabilities_copied _) c.if-not-w.true); within = refused_within }
 
 pub returns-then-not-n : goal.returns-then-not-n
 unfolding confinement_copied
 returns-then-not-n c =
-    let d = after-done _ _ _ c.unpack_identity-w.result _ c.unpack_identity-w.ensures.out_after (capabilities_copied _) c.if-not-w.false in
-    record { out_after = sym (d ∙ counted-refused 64 _ _ (λ k. copied (member_copied false) k _) _ _ c.number_to-n.result c.number_to-n.ensures.value c.if-not-n.true); within = refused_within }
+    let d = after_done _ _ _ c.unpack_identity-w.result _ c.unpack_identity-w.ensures.out_after (capabilities_copied _) c.if-not-w.false in
+    record { out_after = sym (d ∙ counted_refused 64 _ _ (λ k. copied (member_copied false) k _) _ _ c.number_to-n.result c.number_to-n.ensures.value c.if-not-n.true); within = refused_within }
 
 pub put_little-requires : goal.put_little-requires
 put_little-requires c = omega (arith, (counted (goal.at.put_little-requires c).Else-not-n).inside)
@@ -48,12 +48,12 @@ pub unpack_members-requires : goal.unpack_members-requires
 unpack_members-requires c =
     let k = counted (goal.at.unpack_members-requires c).Else-not-n in
     let few = c.number_to-n.ensures.value_le_most.0 in
-    room_same (long (goal.at.unpack_members-requires c).After-out-2-1) (room-left c.requires k.fourfold (omega (arith, k.few, few)))
+    room_same (long (goal.at.unpack_members-requires c).After-out-2-1) (room_left c.requires k.fourfold (omega (arith, k.few, few)))
 
 pub returns : goal.returns
 unfolding confinement_copied
 returns c =
-    let d = after-done _ _ _ c.unpack_identity-w.result _ c.unpack_identity-w.ensures.out_after (capabilities_copied _) c.if-not-w.false in
-    let e = counted-done 64 _ _ (λ k. copied (member_copied false) k _) _ _ c.number_to-n.result c.number_to-n.ensures.value c.if-not-n.false in
+    let d = after_done _ _ _ c.unpack_identity-w.result _ c.unpack_identity-w.ensures.out_after (capabilities_copied _) c.if-not-w.false in
+    let e = counted_done 64 _ _ (λ k. copied (member_copied false) k _) _ _ c.number_to-n.result c.number_to-n.ensures.value c.if-not-n.false in
     let k = counted (goal.at.returns c).Else-not-n in
     record { out_after = c.unpack_members.ensures.out_after ∙ rw c.put_little.ensures (sym (d ∙ e)); within = within_after k.fourfold (omega (arith, k.few, c.number_to-n.ensures.value_le_most.0)) c.unpack_members.ensures.within }

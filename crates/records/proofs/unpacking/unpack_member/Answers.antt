@@ -6,9 +6,9 @@ use native.Mathlib.Omega.{arith}
 use borrow.Author.Tests.{not-false}
 use lib.ListN.{length}
 use Rattle.records.specs.Unpacking.{members_room}
-use Rattle.records.proofs.UnpackLaws.{word-refused, word-done}
-use Rattle.records.proofs.StepLaws.{member-refused, member-alone, member-worded, room_identity, room_worded}
-use Rattle.records.proofs.RoomLaws.{room-left, room_for, refused_within, within_after, number_past}
+use Rattle.records.proofs.UnpackLaws.{word_refused, word_done}
+use Rattle.records.proofs.StepLaws.{member_refused, member_alone, member_worded, room_identity, room_worded}
+use Rattle.records.proofs.RoomLaws.{room_left, room_for, refused_within, within_after, number_past}
 use Rattle.records.proofs.CleanLaws.{unclaimed}
 use Rattle.records.proofs.unpacking.unpack_member.Goals as goal
 use Rattle.records.proofs.unpacking.unpack_member.Goals.{Else-not-a}
@@ -33,25 +33,25 @@ room c =
     room_for c.requires c.number32-a.result.next c.number32-a.ensures.value_bound.1 (fourfold c) (few c)
 
 pub unpack_identity-w-requires : goal.unpack_identity-w-requires
-unpack_identity-w-requires c = room-left c.requires (omega arith) (omega (arith, room_identity c.args.attrs))
+unpack_identity-w-requires c = room_left c.requires (omega arith) (omega (arith, room_identity c.args.attrs))
 
 pub returns-then-not-w : goal.returns-then-not-w
 returns-then-not-w c =
     let a = c.args in
-    record { out_after = sym (member-refused a.attrs _ _ _ _ c.unpack_identity-w.result _ c.unpack_identity-w.ensures.out_after c.if-not-w.true); within = refused_within; such = λ e. unclaimed e }
+    record { out_after = sym (member_refused a.attrs _ _ _ _ c.unpack_identity-w.result _ c.unpack_identity-w.ensures.out_after c.if-not-w.true); within = refused_within; such = λ e. unclaimed e }
 
 pub returns-then-not-attrs : goal.returns-then-not-attrs
 returns-then-not-attrs c =
     let a = c.args in
     let t = c.if-not-attrs.true in
-    record { out_after = member-alone a.attrs _ _ _ _ c.unpack_identity-w.result _ c.unpack_identity-w.ensures.out_after t; within = within_after (omega arith) (omega (arith, room_identity a.attrs)) c.unpack_identity-w.ensures.within; such = c.unpack_identity-w.ensures.such }
+    record { out_after = member_alone a.attrs _ _ _ _ c.unpack_identity-w.result _ c.unpack_identity-w.ensures.out_after t; within = within_after (omega arith) (omega (arith, room_identity a.attrs)) c.unpack_identity-w.ensures.within; such = c.unpack_identity-w.ensures.such }
 
 pub returns-then-not-a : goal.returns-then-not-a
 returns-then-not-a c =
     let a = c.args in
     let t = c.if-not-attrs.false in
-    let d = member-worded a.attrs _ _ _ _ c.unpack_identity-w.result _ c.unpack_identity-w.ensures.out_after t c.if-not-w.false in
-    record { out_after = sym (d ∙ word-refused _ _ _ _ c.number32-a.result c.number32-a.ensures.value c.if-not-a.true); within = refused_within; such = λ e. unclaimed e }
+    let d = member_worded a.attrs _ _ _ _ c.unpack_identity-w.result _ c.unpack_identity-w.ensures.out_after t c.if-not-w.false in
+    record { out_after = sym (d ∙ word_refused _ _ _ _ c.number32-a.result c.number32-a.ensures.value c.if-not-a.true); within = refused_within; such = λ e. unclaimed e }
 
 pub put_attributes-requires : goal.put_attributes-requires
 put_attributes-requires c = omega (arith, room (goal.at.put_attributes-requires c).Else-not-a)
@@ -63,5 +63,5 @@ pub returns : goal.returns
 returns c =
     let a = c.args in
     let t = c.if-not-attrs.false in
-    let d = member-worded a.attrs _ _ _ _ c.unpack_identity-w.result _ c.unpack_identity-w.ensures.out_after t c.if-not-w.false in
-    record { out_after = rw c.put_attributes.ensures (sym (d ∙ word-done _ _ _ _ c.number32-a.result c.number32-a.ensures.value c.if-not-a.false)); within = record { few = λ e. few (goal.at.returns c).Else-not-a; fourfold = λ e. fourfold (goal.at.returns c).Else-not-a }; such = c.unpack_identity-w.ensures.such }
+    let d = member_worded a.attrs _ _ _ _ c.unpack_identity-w.result _ c.unpack_identity-w.ensures.out_after t c.if-not-w.false in
+    record { out_after = rw c.put_attributes.ensures (sym (d ∙ word_done _ _ _ _ c.number32-a.result c.number32-a.ensures.value c.if-not-a.false)); within = record { few = λ e. few (goal.at.returns c).Else-not-a; fourfold = λ e. fourfold (goal.at.returns c).Else-not-a }; such = c.unpack_identity-w.ensures.such }

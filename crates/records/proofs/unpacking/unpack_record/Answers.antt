@@ -9,10 +9,10 @@ use lib.ListN.{length}
 use lib.Seq.{sets}
 use Rattle.base.specs.Bytes.{little}
 use Rattle.base.proofs.BoolLaws.{both}
-use Rattle.records.proofs.RecordAnswer.{Heading, record-unversioned, record-version, record-flags, record-privileges, record-refused}
-use Rattle.records.proofs.RecordAnswer.{record-longer, record-done, record-keeping}
-use Rattle.records.proofs.StepLaws.{step-refused, step-done}
-use Rattle.records.proofs.RoomLaws.{room-left, room_for, room_same, number_past, limited_past}
+use Rattle.records.proofs.RecordAnswer.{Heading, record_unversioned, record_version, record_flags, record_privileges, record_refused_lem}
+use Rattle.records.proofs.RecordAnswer.{record_longer, record_done, record_keeping}
+use Rattle.records.proofs.StepLaws.{step_refused, step_done}
+use Rattle.records.proofs.RoomLaws.{room_left, room_for, room_same, number_past, limited_past}
 use Rattle.records.proofs.CleanLaws.{unclaimed}
 use native.Mathlib.Omega.{arith}
 use borrow.Author.Rules.{rules}
@@ -60,16 +60,16 @@ long c = search rules
 
 -- ---- the people
 pub returns-then-not-version : goal.returns-then-not-version
-returns-then-not-version c = record { unpacks = record-unversioned _ _ _ c.number32-version.result c.number32-version.ensures.value c.if-not-version.true; length_in_bounds = omega arith; read_keeping = λ e. unclaimed e }
+returns-then-not-version c = record { unpacks = record_unversioned _ _ _ c.number32-version.result c.number32-version.ensures.value c.if-not-version.true; length_in_bounds = omega arith; read_keeping = λ e. unclaimed e }
 
 pub returns-then-version-ne1 : goal.returns-then-version-ne1
-returns-then-version-ne1 c = record { unpacks = record-version _ _ _ c.number32-version.result c.number32-version.ensures.value c.if-not-version.false c.if-version-ne1.true; length_in_bounds = omega arith; read_keeping = λ e. unclaimed e }
+returns-then-version-ne1 c = record { unpacks = record_version _ _ _ c.number32-version.result c.number32-version.ensures.value c.if-not-version.false c.if-version-ne1.true; length_in_bounds = omega arith; read_keeping = λ e. unclaimed e }
 
 pub returns-then-not-flags : goal.returns-then-not-flags
 returns-then-not-flags c =
     let one = c.if-version-ne1.false in
     record {
-      unpacks = record-flags _ _ _ c.number32-version.result c.number32-version.ensures.value c.if-not-version.false one c.number_to-flags.result c.number_to-flags.ensures.value
+      unpacks = record_flags _ _ _ c.number32-version.result c.number32-version.ensures.value c.if-not-version.false one c.number_to-flags.result c.number_to-flags.ensures.value
           c.if-not-flags.true;
       length_in_bounds = omega arith;
       read_keeping = λ e. unclaimed e;
@@ -81,7 +81,7 @@ returns-then-not-p c =
     let one = c.if-version-ne1.false in
     let flagged = c.if-not-flags.false in
     let such = c.number_to-flags.ensures.value in
-    record { unpacks = record-privileges _ _ _ c.number32-version.result c.number32-version.ensures.value found one c.number_to-flags.result such flagged c.number64-p.result c.number64-p.ensures.value c.if-not-p.true; length_in_bounds = omega arith; read_keeping = λ e. unclaimed e }
+    record { unpacks = record_privileges _ _ _ c.number32-version.result c.number32-version.ensures.value found one c.number_to-flags.result such flagged c.number64-p.result c.number64-p.ensures.value c.if-not-p.true; length_in_bounds = omega arith; read_keeping = λ e. unclaimed e }
 
 pub put_little-requires : goal.put_little-requires
 put_little-requires c = omega (arith, room (goal.at.put_little-requires c).Else-not-p)
@@ -90,18 +90,18 @@ pub put_little-requires-2 : goal.put_little-requires-2
 put_little-requires-2 c = omega (arith, room (goal.at.put_little-requires-2 c).Else-not-p)
 
 pub unpack_people-w-requires : goal.unpack_people-w-requires
-unpack_people-w-requires c = room_same (long (goal.at.unpack_people-w-requires c).After-out-2-1) (room-left c.requires (omega (arith, past (goal.at.unpack_people-w-requires c).Else-not-p)) (omega arith))
+unpack_people-w-requires c = room_same (long (goal.at.unpack_people-w-requires c).After-out-2-1) (room_left c.requires (omega (arith, past (goal.at.unpack_people-w-requires c).Else-not-p)) (omega arith))
 
 pub returns-then-not-w : goal.returns-then-not-w
 returns-then-not-w c =
-    let e = step-refused _ _ _ c.unpack_people-w.result _ c.unpack_people-w.ensures.out_after c.if-not-w.true in
-    record { unpacks = record-refused (heading (goal.at.returns-then-not-w c).Else-not-p) _ _ _ (made (goal.at.returns-then-not-w c).After-put_little-2) e; length_in_bounds = omega arith; read_keeping = λ e. unclaimed e }
+    let e = step_refused _ _ _ c.unpack_people-w.result _ c.unpack_people-w.ensures.out_after c.if-not-w.true in
+    record { unpacks = record_refused_lem (heading (goal.at.returns-then-not-w c).Else-not-p) _ _ _ (made (goal.at.returns-then-not-w c).After-put_little-2) e; length_in_bounds = omega arith; read_keeping = λ e. unclaimed e }
 
 pub returns-then-w-s : goal.returns-then-w-s
 returns-then-w-s c =
-    let e = step-done _ _ _ c.unpack_people-w.result _ c.unpack_people-w.ensures.out_after c.if-not-w.false in
+    let e = step_done _ _ _ c.unpack_people-w.result _ c.unpack_people-w.ensures.out_after c.if-not-w.false in
     record {
-      unpacks = record-longer (heading (goal.at.returns-then-w-s c).Else-not-p) _ _ _ (made (goal.at.returns-then-w-s c).After-put_little-2) _ _ e c.if-w-s.true;
+      unpacks = record_longer (heading (goal.at.returns-then-w-s c).Else-not-p) _ _ _ (made (goal.at.returns-then-w-s c).After-put_little-2) _ _ e c.if-w-s.true;
       length_in_bounds = omega arith;
       read_keeping = λ
           e. unclaimed e;
@@ -109,16 +109,16 @@ returns-then-w-s c =
 
 pub returns : goal.returns
 returns c =
-    let e = step-done _ _ _ c.unpack_people-w.result _ c.unpack_people-w.ensures.out_after c.if-not-w.false in
+    let e = step_done _ _ _ c.unpack_people-w.result _ c.unpack_people-w.ensures.out_after c.if-not-w.false in
     let f = c.number_to-flags.result in
     let ok = not-false c.unpack_people-w.result.ok c.if-not-w.false in
     record {
-      unpacks = record-done (heading (goal.at.returns c).Else-not-p) _ _ _ (made (goal.at.returns c).After-put_little-2) _ _ e c.if-w-s.false;
+      unpacks = record_done (heading (goal.at.returns c).Else-not-p) _ _ _ (made (goal.at.returns c).After-put_little-2) _ _ e c.if-w-s.false;
       length_in_bounds = room_for c.requires c.unpack_people-w.result.next (omega arith) (omega (arith, past (goal.at.returns c).Else-not-p, c.unpack_people-w.ensures.within.fourfold ok))
           (omega (arith, c.unpack_people-w.ensures.within.few ok));
       read_keeping = λ x.
           let g = sym c.both.ensures ∙ x in
           let none = eqb-true f.value 0 (both (eqb f.value 0) c.unpack_people-w.result.clean g).0 in
-          record-keeping (heading (goal.at.returns c).Else-not-p) _ _ _ (made (goal.at.returns c).After-put_little-2) _ _ e c.if-w-s.false
+          record_keeping (heading (goal.at.returns c).Else-not-p) _ _ _ (made (goal.at.returns c).After-put_little-2) _ _ e c.if-w-s.false
           (c.unpack_people-w.ensures.such none (both (eqb f.value 0) c.unpack_people-w.result.clean g).1 _);
     }

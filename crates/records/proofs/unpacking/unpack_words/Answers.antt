@@ -6,8 +6,8 @@ use mathlib.Core.Path.{refl, sym, ◌∙◌}
 use native.Mathlib.Omega.{arith}
 use borrow.Author.Rules.{rules}
 use lib.ListN.{length}
-use Rattle.records.proofs.UnpackLaws.{copied_none, copied-refused, copied-done, word-refused, word-done}
-use Rattle.records.proofs.RoomLaws.{room-left, room_for, refused_within, number_past}
+use Rattle.records.proofs.UnpackLaws.{copied_none, copied_refused, copied_done, word_refused, word_done}
+use Rattle.records.proofs.RoomLaws.{room_left, room_for, refused_within, number_past}
 use Rattle.records.proofs.unpacking.unpack_words.Goals as goal
 use Rattle.records.proofs.unpacking.unpack_words.Goals.{Else-not-w}
 
@@ -24,8 +24,8 @@ loop-more-init c = (refl, omega arith, refl, c.requires, refl)
 pub returns-then-not-w : goal.returns-then-not-w
 returns-then-not-w c =
     let i = c.loop-more.invariant in
-    let w = word-refused _ _ _ _ c.word32-w.result c.word32-w.ensures.value c.if-not-w.true in
-    record { out_after = sym (i.4 ∙ copied-refused _ _ _ _ _ _ c.loop-more-test.true w); within = refused_within }
+    let w = word_refused _ _ _ _ c.word32-w.result c.word32-w.ensures.value c.if-not-w.true in
+    record { out_after = sym (i.4 ∙ copied_refused _ _ _ _ _ _ c.loop-more-test.true w); within = refused_within }
 
 pub put_little-requires : goal.put_little-requires
 put_little-requires c = omega (arith, room (goal.at.put_little-requires c).Else-not-w)
@@ -36,13 +36,13 @@ overflow_add-to c = omega (arith, room (goal.at.overflow_add-to c).Else-not-w)
 pub loop-more-preserved : goal.loop-more-preserved
 loop-more-preserved c =
     let i = c.loop-more.invariant in
-    let w = word-done _ _ _ _ c.word32-w.result c.word32-w.ensures.value c.if-not-w.false in
-    let d = copied-done _ _ _ _ _ _ _ _ _ c.loop-more-test.true w in
+    let w = word_done _ _ _ _ c.word32-w.result c.word32-w.ensures.value c.if-not-w.false in
+    let d = copied_done _ _ _ _ _ _ _ _ _ c.loop-more-test.true w in
     let past = number_past 32 _ _ c.word32-w.result c.word32-w.ensures.value c.if-not-w.false in (
       omega arith,
       omega (arith, past),
       search rules,
-      room-left i.3 (omega (arith, past)) (omega arith),
+      room_left i.3 (omega (arith, past)) (omega arith),
       i.4 ∙ d ∙ rw (sym c.put_little.ensures),
     )
 

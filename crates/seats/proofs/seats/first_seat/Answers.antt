@@ -5,13 +5,13 @@ use native.Mathlib.Omega.{arith}
 use Rattle.sids.proofs.SidLaws.{sid_end_bounds}
 use Rattle.sids.specs.Sid.{sid_end}
 use Rattle.seats.specs.declared.seats.Seat.{Seat}
-use Rattle.seats.proofs.SeatsLaws.{first-seat-none, first-seat-some}
+use Rattle.seats.proofs.SeatsLaws.{first_seat_none, first_seat_some}
 use Rattle.seats.proofs.seats.first_seat.Goals as goal
 
 pub returns-then-e-eq0 : goal.returns-then-e-eq0
 returns-then-e-eq0 c =
     let a = c.args in
-    let z = first-seat-none a.s.now a.at (sym c.sid_end-e.ensures.value ∙ c.if-e-eq0.true) in
+    let z = first_seat_none a.s.now a.at (sym c.sid_end-e.ensures.value ∙ c.if-e-eq0.true) in
     let n = c.no_seat.ensures in
     record {
       value = n ∙ sym z;
@@ -28,7 +28,7 @@ returns c =
     let some : sid_end a.s.now a.at ≡ 0 → ⊥ = λ z. c.if-e-eq0.false (e ∙ z) in
     let b = sid_end_bounds a.s.now a.at some in
     record {
-      value = sym (first-seat-some a.s.now a.at c.sid_end-e.result e c.if-e-eq0.false c.onward-next.result
+      value = sym (first_seat_some a.s.now a.at c.sid_end-e.result e c.if-e-eq0.false c.onward-next.result
           c.onward-next.ensures.value);
       seat_lies = (omega (arith, b.0), (omega arith, omega arith));
     }

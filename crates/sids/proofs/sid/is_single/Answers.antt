@@ -6,23 +6,23 @@ use native.Mathlib.Omega.{arith}
 use lib.Dec.{eqb}
 use Rattle.base.specs.Bytes.{u32_at}
 use Rattle.base.proofs.BytesLaws.{bytes_of_lt}
-use Rattle.sids.proofs.SingleLaws.{single-authority, single-word, single-long, single-miss, single-test}
+use Rattle.sids.proofs.SingleLaws.{single_authority, single_word, single_long, single_miss, single_test}
 use Rattle.sids.proofs.sid.is_single.Goals as goal
 
 pub returns-then-w-ne12 : goal.returns-then-w-ne12
-returns-then-w-ne12 c = sym (single-long _ _ _ c.if-w-ne12.true)
+returns-then-w-ne12 c = sym (single_long _ _ _ c.if-w-ne12.true)
 
 pub returns-then-u32_at-word : goal.returns-then-u32_at-word
 returns-then-u32_at-word c =
     let a = c.args in
-    let p = single-word a.authority a.word (omega arith) in
-    sym (single-miss a.w.now a.authority a.word 8 a.word p (λ e. omega arith))
+    let p = single_word a.authority a.word (omega arith) in
+    sym (single_miss a.w.now a.authority a.word 8 a.word p (λ e. omega arith))
 
 pub returns-then-u32_at-authority : goal.returns-then-u32_at-authority
 returns-then-u32_at-authority c =
     let a = c.args in
-    let p = single-authority a.authority a.word (omega arith) in
-    sym (single-miss a.w.now a.authority a.word 4 a.authority p (λ e. omega arith))
+    let p = single_authority a.authority a.word (omega arith) in
+    sym (single_miss a.w.now a.authority a.word 4 a.authority p (λ e. omega arith))
 
 pub returns : goal.returns
 returns c =
@@ -32,4 +32,4 @@ returns c =
     let second : u32_at w 4 ≡ a.authority = omega arith in
     let third : u32_at w 8 ≡ a.word = omega arith in
     ap (λ (x : ℕ). eqb x 257) c.u32_at-3.ensures
-    ∙ single-test w a.authority a.word b c.if-w-ne12.false second third
+    ∙ single_test w a.authority a.word b c.if-w-ne12.false second third

@@ -5,7 +5,7 @@ use mathlib.Core.Path.{◌≡◌, refl, sym, ap, ◌∙◌}
 use native.Mathlib.Omega.{arith}
 use lib.ListN.{length, length-set, set}
 use Rattle.testkit.specs.Text.{Filling}
-use Rattle.testkit.proofs.TextLaws.{fill_start, fill-full, fill_end, fill_done, fill-short, fill-bad, fill_more}
+use Rattle.testkit.proofs.TextLaws.{fill_start, fill_full, fill_end, fill_done, fill_short, fill_bad, fill_more}
 use Rattle.testkit.proofs.text.bytes_of.Goals as goal
 
 -- a filling tells the answer and the buffer
@@ -30,13 +30,13 @@ returns-then-text-i-2 c =
 pub returns-then-text-i-lt2 : goal.returns-then-text-i-lt2
 returns-then-text-i-lt2 c =
     let a = c.args in
-    let room = length c.loop-n.out - c.loop-n.n in let whole = told (c.loop-n.invariant.3 ∙ fill-short a.text.now c.loop-n.out a.stop room (room - 1) c.loop-n.n c.loop-n.i (omega arith) (omega arith)
+    let room = length c.loop-n.out - c.loop-n.n in let whole = told (c.loop-n.invariant.3 ∙ fill_short a.text.now c.loop-n.out a.stop room (room - 1) c.loop-n.n c.loop-n.i (omega arith) (omega arith)
     c.if-text-i-2.false (omega arith)) (omega arith) in record { value = whole.0; out_after = whole.1.0; length_in_bounds = whole.1.1 }
 
 pub returns-then-b-gt255 : goal.returns-then-b-gt255
 returns-then-b-gt255 c =
     let a = c.args in
-    let room = length c.loop-n.out - c.loop-n.n in let whole = told (c.loop-n.invariant.3 ∙ fill-bad a.text.now c.loop-n.out a.stop room (room - 1) c.loop-n.n c.loop-n.i (omega arith) (omega arith)
+    let room = length c.loop-n.out - c.loop-n.n in let whole = told (c.loop-n.invariant.3 ∙ fill_bad a.text.now c.loop-n.out a.stop room (room - 1) c.loop-n.n c.loop-n.i (omega arith) (omega arith)
     c.if-text-i-2.false
     (omega arith)
     (omega (arith, c.byte_of-b.ensures)))
@@ -63,4 +63,4 @@ loop-n-preserved c =
 pub returns : goal.returns
 returns c =
     let a = c.args in
-    let room = length c.loop-n.out - c.loop-n.n in let whole = told (c.loop-n.invariant.3 ∙ fill-full a.text.now c.loop-n.out a.stop room (room - 1) c.loop-n.n c.loop-n.i (omega arith)) (omega arith) in record { value = whole.0; out_after = whole.1.0; length_in_bounds = whole.1.1 }
+    let room = length c.loop-n.out - c.loop-n.n in let whole = told (c.loop-n.invariant.3 ∙ fill_full a.text.now c.loop-n.out a.stop room (room - 1) c.loop-n.n c.loop-n.i (omega arith)) (omega arith) in record { value = whole.0; out_after = whole.1.0; length_in_bounds = whole.1.1 }

@@ -4,7 +4,7 @@
 use mathlib.Core.Path.{sym, ap, ◌∙◌}
 use lib.ListN.{length}
 use lib.Seq.{sets}
-use Rattle.tokens.proofs.ConvertLaws.{Listed, listed_in_lem, fitted-longer, within-answer, within-bytes}
+use Rattle.tokens.proofs.ConvertLaws.{Listed, listed_in_lem, fitted_longer, within_answer, within_bytes}
 use Rattle.tokens.proofs.flat.listed_by.Goals as goal
 use Rattle.tokens.proofs.flat.listed_by.Goals.{After-list_in-e}
 
@@ -15,7 +15,7 @@ listed c =
 pub returns-then-out-n : goal.returns-then-out-n
 returns-then-out-n c =
     let a = c.args in
-    let f = fitted-longer a.s.now c.list_in-e.result _ (listed (goal.at.returns-then-out-n c).After-list_in-e) (length a.out.now) c.if-out-n.true in
+    let f = fitted_longer a.s.now c.list_in-e.result _ (listed (goal.at.returns-then-out-n c).After-list_in-e) (length a.out.now) c.if-out-n.true in
     record { value = rw f; out_after = rw f }
 
 pub returns : goal.returns
@@ -23,4 +23,4 @@ returns c =
     let a = c.args in
     let r = c.list_in-e.result in
     let m = length a.out.now in
-    record { value = within-answer a.s.now r _ (listed (goal.at.returns c).After-list_in-e) m c.if-out-n.false; out_after = c.copy.ensures ∙ ap (sets a.out.now 0) (sym (within-bytes a.s.now r _ (listed (goal.at.returns c).After-list_in-e) m c.if-out-n.false)) }
+    record { value = within_answer a.s.now r _ (listed (goal.at.returns c).After-list_in-e) m c.if-out-n.false; out_after = c.copy.ensures ∙ ap (sets a.out.now 0) (sym (within_bytes a.s.now r _ (listed (goal.at.returns c).After-list_in-e) m c.if-out-n.false)) }

@@ -3,7 +3,7 @@
 -- Assumes nothing.
 use mathlib.Core.Path.{refl, sym, ◌∙◌}
 use native.Mathlib.Omega.{arith}
-use Rattle.tokens.proofs.JudgeLaws.{identity-after, groups_none, groups-stop, groups-cut, groups-step}
+use Rattle.tokens.proofs.JudgeLaws.{identity_after, groups_none, groups_stop, groups_cut, groups_step}
 use Rattle.tokens.proofs.judging.judge_groups.Goals as goal
 
 pub loop-more-init : goal.loop-more-init
@@ -13,7 +13,7 @@ pub returns-then-e-eq0 : goal.returns-then-e-eq0
 returns-then-e-eq0 c =
     let i = c.loop-more.invariant in
     record {
-      result_value = sym (i.1 ∙ groups-stop _ _ _ c.loop-more.breaks c.loop-more-test.true (sym c.sid_end-e.ensures.value
+      result_value = sym (i.1 ∙ groups_stop _ _ _ c.loop-more.breaks c.loop-more-test.true (sym c.sid_end-e.ensures.value
           ∙ c.if-e-eq0.true));
       next_in_bounds = omega arith;
     }
@@ -22,20 +22,20 @@ pub returns-then-s-e-lt4 : goal.returns-then-s-e-lt4
 returns-then-s-e-lt4 c =
     let i = c.loop-more.invariant in
     record {
-      result_value = sym (i.1 ∙ groups-cut _ _ _ c.loop-more.breaks c.loop-more-test.true
+      result_value = sym (i.1 ∙ groups_cut _ _ _ c.loop-more.breaks c.loop-more-test.true
           c.sid_end-e.result c.sid_end-e.ensures.value c.if-e-eq0.false (omega arith));
       next_in_bounds = omega arith;
     }
 
 pub is_virtual-requires : goal.is_virtual-requires
 is_virtual-requires c =
-    let a = identity-after _ _ c.sid_end-e.result c.sid_end-e.ensures.value c.if-e-eq0.false in
+    let a = identity_after _ _ c.sid_end-e.result c.sid_end-e.ensures.value c.if-e-eq0.false in
     (omega (arith, a), omega arith)
 
 pub loop-more-preserved : goal.loop-more-preserved
 loop-more-preserved c =
     let i = c.loop-more.invariant in
-    let d = groups-step c.args.s.now
+    let d = groups_step c.args.s.now
     c.loop-more.from c.loop-more.more
     c.loop-more.breaks
     c.loop-more-test.true c.sid_end-e.result c.sid_end-e.ensures.value

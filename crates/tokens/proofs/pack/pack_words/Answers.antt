@@ -2,7 +2,7 @@
 -- measure is the count that is left. Assumes nothing.
 use native.Mathlib.Omega.{arith}
 use Rattle.base.specs.Sevens.{packed}
-use Rattle.base.proofs.WriteLaws.{left_start, left-long, left-room, left_step, left-done}
+use Rattle.base.proofs.WriteLaws.{left_start, left_long, left_room, left_step, left_done}
 use Rattle.records.proofs.PackLaws.{words_none, words_more}
 use Rattle.tokens.proofs.pack.pack_words.Goals as goal
 
@@ -13,7 +13,7 @@ pub put-to-requires : goal.put-to-requires
 put-to-requires c =
     let i = c.loop-more.invariant in
     let t = c.loop-more-test.true in
-    left-room i.0 (packed c.word.result) _ (words_more _ _ _ _ t c.word.ensures) i.2
+    left_room i.0 (packed c.word.result) _ (words_more _ _ _ _ t c.word.ensures) i.2
 
 pub loop-more-preserved : goal.loop-more-preserved
 loop-more-preserved c =
@@ -22,7 +22,7 @@ loop-more-preserved c =
     (left_step i.0 _ _ (words_more _ _ _ _ t c.word.ensures) c.put-to.ensures, omega (arith, i.1), i.2)
 
 pub shape_of-out : goal.shape_of-out
-shape_of-out c = let i = c.loop-more.invariant in left-long i.0
+shape_of-out c = let i = c.loop-more.invariant in left_long i.0
 
 pub returns : goal.returns
-returns c = let i = c.loop-more.invariant in left-done i.0 (words_none _ _ _ c.loop-more-test.false)
+returns c = let i = c.loop-more.invariant in left_done i.0 (words_none _ _ _ c.loop-more-test.false)

@@ -7,13 +7,13 @@ use lib.Seq.{sets}
 use Rattle.base.proofs.BytesLaws.{part_front}
 use Rattle.base.proofs.WriteLaws.{wrote_length, sets_front}
 use Rattle.records.specs.Packing.{record_bytes}
-use Rattle.tokens.proofs.ToRecordLaws.{fitted-longer, fitted_within}
+use Rattle.tokens.proofs.ToRecordLaws.{fitted_longer, fitted_within}
 use Rattle.tokens.proofs.pack.packed_by.Goals as goal
 
 pub returns-then-out-n : goal.returns-then-out-n
 returns-then-out-n c =
     let a = c.args in
-    let f = fitted-longer (length a.out.now) c.pack-n.result (record_bytes a.s.now) (wrote_length c.pack-n.ensures) c.if-out-n.true in
+    let f = fitted_longer (length a.out.now) c.pack-n.result (record_bytes a.s.now) (wrote_length c.pack-n.ensures) c.if-out-n.true in
     record { value = rw f; out_after = rw f }
 
 pub returns : goal.returns

@@ -7,14 +7,14 @@ use lib.ListN.{length}
 use Rattle.base.proofs.BytesLaws.{bytes_of_lt}
 use Rattle.base.proofs.WriteLaws.{wrote_length, buffer_room}
 use Rattle.records.specs.Packing.{record_bytes}
-use Rattle.tokens.proofs.ToRecordLaws.{judged-packable, judged-short, judged-twice, record_of_lem, fitted-refused, fitted_within}
+use Rattle.tokens.proofs.ToRecordLaws.{judged_packable, judged_short, judged_twice, record_of_lem, fitted_refused, fitted_within}
 use Rattle.tokens.proofs.pack.to_record.Goals as goal
 
 pub returns-then-j-ne0 : goal.returns-then-j-ne0
 returns-then-j-ne0 c =
     let a = c.args in
     let b = bytes_of_lt a.s.now (λ i l. (c.type_inv.s i).fits) in
-    let f = fitted-refused a.s.now c.judge-j.result b c.judge-j.ensures.value (length a.out.now) c.if-j-ne0.true in
+    let f = fitted_refused a.s.now c.judge-j.result b c.judge-j.ensures.value (length a.out.now) c.if-j-ne0.true in
     record { value = rw f; out_after = rw f }
 
 pub pack-n-requires : goal.pack-n-requires
@@ -22,16 +22,16 @@ pack-n-requires c =
     let a = c.args in
     let b = bytes_of_lt a.s.now (λ i l. (c.type_inv.s i).fits) in
     let h = c.if-j-ne0.false in
-    let w = judged-twice a.s.now c.judge-j.result b c.judge-j.ensures.value h in
+    let w = judged_twice a.s.now c.judge-j.result b c.judge-j.ensures.value h in
     let k : length (record_bytes a.s.now) ≤ length a.out.now = omega (arith, c.if-s-out.true) in
-    (judged-packable a.s.now c.judge-j.result b c.judge-j.ensures.value h, k)
+    (judged_packable a.s.now c.judge-j.result b c.judge-j.ensures.value h, k)
 
 pub returns-then-s-out : goal.returns-then-s-out
 returns-then-s-out c =
     let a = c.args in
     let b = bytes_of_lt a.s.now (λ i l. (c.type_inv.s i).fits) in
     let h = c.if-j-ne0.false in
-    let w = judged-twice a.s.now c.judge-j.result b c.judge-j.ensures.value h in
+    let w = judged_twice a.s.now c.judge-j.result b c.judge-j.ensures.value h in
     let n = wrote_length c.pack-n.ensures in
     let k : c.pack-n.result ≤ length a.out.now = omega (arith, c.if-s-out.true) in
     let e = record_of_lem a.s.now c.judge-j.result b c.judge-j.ensures.value h in
@@ -43,9 +43,9 @@ packed_by-requires c =
     let a = c.args in
     let b = bytes_of_lt a.s.now (λ i l. (c.type_inv.s i).fits) in
     let h = c.if-j-ne0.false in
-    let w = judged-twice a.s.now c.judge-j.result b c.judge-j.ensures.value h in
+    let w = judged_twice a.s.now c.judge-j.result b c.judge-j.ensures.value h in
     let k : length (record_bytes a.s.now) ≤ 2048 = omega (arith, c.if-s-le1024.true) in
-    (judged-packable a.s.now c.judge-j.result b c.judge-j.ensures.value h, buffer_room _ 2048 k)
+    (judged_packable a.s.now c.judge-j.result b c.judge-j.ensures.value h, buffer_room _ 2048 k)
 
 pub returns-then-s-le1024 : goal.returns-then-s-le1024
 returns-then-s-le1024 c =
@@ -60,8 +60,8 @@ packed_by-requires-2 c =
     let a = c.args in
     let b = bytes_of_lt a.s.now (λ i l. (c.type_inv.s i).fits) in
     let h = c.if-j-ne0.false in
-    let k = judged-short a.s.now c.judge-j.result b c.judge-j.ensures.value h in
-    (judged-packable a.s.now c.judge-j.result b c.judge-j.ensures.value h, buffer_room _ 28021 k)
+    let k = judged_short a.s.now c.judge-j.result b c.judge-j.ensures.value h in
+    (judged_packable a.s.now c.judge-j.result b c.judge-j.ensures.value h, buffer_room _ 28021 k)
 
 pub returns : goal.returns
 returns c =

@@ -1,9 +1,9 @@
--- `authority` meets its contract: six bytes inside a SID are the number that `u48BeAt` says. Assumes nothing.
+-- `authority` meets its contract: six bytes inside a SID are the number that `u48_be_at` says. Assumes nothing.
 use native.Mathlib.Omega.{arith}
-use Rattle.base.proofs.WordsLaws.{u48-be-at-in}
+use Rattle.base.proofs.WordsLaws.{u48_be_at_in}
 use Rattle.tokens.proofs.parts.authority.Goals as goal
 
 pub returns : goal.returns
 returns c =
-    let u = u48-be-at-in c.args.w.now 2 c.requires in
+    let u = u48_be_at_in c.args.w.now 2 c.requires in
     omega (arith, u)
