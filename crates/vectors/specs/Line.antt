@@ -1,19 +1,7 @@
 -- Numbers in a line.
-use Rattle.std.specs.Prelude.{◌≡◌, ℕ, zero, suc, ◌+◌, ◌-◌, ◌/◌, ◌%◌, ◌^◌, ◌<◌, ◌≤◌, Bool, not, cond, List, [], ◌∷◌, ◌++◌, ◌==◌, nat_lt}
+use Rattle.std.specs.Prelude.{◌≡◌, ℕ, Bool, not, List, [], ◌∷◌, ◌==◌}
+use Rattle.io.specs.Digits.{last_digits, IsDigitCount}
 use Rattle.testkit.specs.Text.{no_place, after}
-
--- the character of a digit below 16: `0` to `9`, then `a` to `f`
-abbrev pub digit_character : ℕ → ℕ
-digit_character d = cond (nat_lt d 10) (48 + d) (87 + d)
-
--- the last k digits of n in base b, the most significant first
-abbrev pub last_digits : ℕ → ℕ → ℕ → List ℕ
-last_digits b zero n = []
-last_digits b (suc k) n = last_digits b k (n / b) ++ (digit_character (n % b) ∷ [])
-
--- n takes k digits in base b, where it is to have `width` digits at least
-abbrev pub IsDigitCount : ℕ → ℕ → ℕ → ℕ → Type 0
-IsDigitCount b width n k = (width ≤ k) × (n < b ^ k) × (width < k → b ^ (k - 1) ≤ n)
 
 -- whether words and a line end stand at a place
 abbrev pub ends_with : List ℕ → ℕ → List ℕ → Bool

@@ -1,8 +1,4 @@
 // Cases of a question.
-ghost use Rattle.std.specs.Prelude.{◌≡◌};
-ghost use Rattle.std.specs.Int.{w32, to_be_bytes};
-ghost use Rattle.hex.specs.Hex.{encode_lower};
-
 use crate::text::ends_with_number;
 use answers::Answer;
 use lists::Rights;
@@ -23,19 +19,11 @@ fn after_flags(text: &[u8], at: usize, a: Answer) -> usize {
     after(text, end, b"\n")
 }
 
-// A mask in eight digits.
-fn digits_of(mask: Rights) -> [u8; 8]
-    ensures { result ≡ encode_lower (to_be_bytes w32 mask.0) }
-{
-    let mut digits = [0u8; 8];
-    hex::encode_to_slice(mask.0.to_be_bytes(), &mut digits).unwrap();
-    digits
-}
-
 // The place after a mask in eight digits, which stand behind some words at a place.
 fn after_mask(text: &[u8], at: usize, words: &[u8], mask: Rights) -> usize {
-    let digits = digits_of(mask);
-    after(text, after(text, at, words), &digits)
+    let mut digits = [0u8; 16];
+    let k = io::hex(mask.0 as u64, 8, &mut digits);
+    after(text, after(text, at, words), &digits[0..k])
 }
 
 // Whether the line of the four masks stands at a place.

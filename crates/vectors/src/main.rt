@@ -8,7 +8,6 @@ mod text;
 
 ghost use Rattle.std.specs.Prelude.{◌≡◌, if◌then◌else◌};
 
-use std::io;
 use testkit::{after, next_line, print, print_number};
 
 // What two lines that follow each other are.
@@ -84,7 +83,7 @@ struct Score {
 }
 
 // Counts a case, and writes a line where it differs.
-fn counted(rt: &impl Print, name: &[u8], c: Score, found: u8) -> io::Result<Score> {
+fn counted(rt: &impl Print, name: &[u8], c: Score, found: u8) -> std::io::Result<Score> {
     if found == NO_CASE {
         return Ok(c);
     }
@@ -106,7 +105,7 @@ fn counted(rt: &impl Print, name: &[u8], c: Score, found: u8) -> io::Result<Scor
 }
 
 // Goes through a text line by line.
-fn count(rt: &impl Print, name: &[u8], text: &[u8]) -> io::Result<Score> {
+fn count(rt: &impl Print, name: &[u8], text: &[u8]) -> std::io::Result<Score> {
     let mut c = Score {
         cases: 0,
         differ: 0,
@@ -121,7 +120,7 @@ fn count(rt: &impl Print, name: &[u8], text: &[u8]) -> io::Result<Score> {
     Ok(c)
 }
 
-fn report(rt: &impl Print, name: &[u8], text: &[u8]) -> io::Result<()> {
+fn report(rt: &impl Print, name: &[u8], text: &[u8]) -> std::io::Result<()> {
     let c = count(rt, name, text)?;
     print(rt, name)?;
     print(rt, b": ")?;
@@ -132,13 +131,13 @@ fn report(rt: &impl Print, name: &[u8], text: &[u8]) -> io::Result<()> {
 }
 
 // Reads a vector file and runs its cases.
-fn run(rt: &HostRuntime, name: &[u8]) -> io::Result<()> {
+fn run(rt: &HostRuntime, name: &[u8]) -> std::io::Result<()> {
     let mut text = vec![in rt.alloc(); 0u8; 524288]?;
     let n = testkit::read(rt, name, &mut text)?;
     report(rt, name, &text[0..n])
 }
 
-fn main(rt: HostRuntime) -> io::Result<()> {
+fn main(rt: HostRuntime) -> std::io::Result<()> {
     run(&rt, b"cards.txt")?;
     run(&rt, b"refusals.txt")?;
     run(&rt, b"descriptors.txt")?;

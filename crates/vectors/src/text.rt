@@ -7,8 +7,8 @@ use testkit::{NOWHERE, after};
 pub(crate) fn ends_with_number(text: &[u8], at: usize, n: u32) -> bool
     ensures { NumberLine text.now at n result }
 {
-    let mut buffer = itoa::Buffer::new();
-    let digits = buffer.format(n).as_bytes();
-    let end = after(text, at, digits);
+    let mut digits = [0u8; 20];
+    let k = io::decimal(n as u64, &mut digits);
+    let end = after(text, at, &digits[0..k]);
     after(text, end, b"\n") != NOWHERE
 }

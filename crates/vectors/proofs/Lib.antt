@@ -1,2 +1,0 @@
--- Laws of numbers in a line.
-mod NumberLaws
