@@ -13,9 +13,8 @@ use lib.Pow.{are_bytes}
 use Rattle.base.proofs.BytesLaws.{length_part}
 use Rattle.lists.specs.Descriptor.{parts_of, owner_of, sacl_of, part_in}
 use Rattle.lists.specs.declared.descriptor.Extent.{Extent}
-use Rattle.lists.specs.declared.descriptor.Parts.{Parts}
 use Rattle.lists.proofs.DescriptorLaws.{parts_bounds}
-use Rattle.lists.proofs.DescriptorSteps.{part_handed}
+use Rattle.lists.proofs.DescriptorSteps.{part_in_inside}
 use Rattle.records.specs.Token.{Token}
 use Rattle.records.specs.Shaped.{Shaped}
 use Rattle.records.specs.FlatListing.{listing_of}
@@ -29,9 +28,9 @@ use Rattle.access.specs.Status.{Question, by_lists}
 use Rattle.access.specs.Reported.{lending, in_buffer, report_past, Lent}
 use Rattle.access.specs.Evaluating.{crowd_in, report_in}
 use Rattle.answers.specs.declared.answer.Answer.{Answer}
-use Rattle.access.specs.declared.answer.Findings.{Findings}
 use Rattle.access.specs.declared.answer.Traced.{Traced}
-use Rattle.access.proofs.FindingsLaws.{findings_for, Reports, past_taken}
+use Rattle.access.specs.Findings.{Findings, findings_for}
+use Rattle.access.proofs.FindingsLaws.{Reports, past_taken}
 use Rattle.access.proofs.ReportLaws.{lent_none, unasked, report_listed}
 use Rattle.access.proofs.TokenSteps.{number_sound, crowd_few}
 
@@ -69,15 +68,15 @@ module _ (q : Question) (f : Findings) (e : f ≡ findings_for q) (z : f.status 
 
   pub owner_held : (w : List ℕ) → w ≡ part_in q.descriptor f.owner.from f.owner.to → w ≡ owner_of q.descriptor
   owner_held w h =
-      part_handed q.descriptor w (parts_of q.descriptor) (λ (x : Parts). x.owner)
-      (h ∙ ap (λ (g : Findings). part_in q.descriptor g.owner.from g.owner.to) reports.taken.is)
-      (parts_bounds q.descriptor).owner refl
+      let x : Extent = (parts_of q.descriptor).owner in
+      let o = (parts_bounds q.descriptor).owner in
+      h ∙ ap (λ (g : Findings). part_in q.descriptor g.owner.from g.owner.to) reports.taken.is ∙ part_in_inside q.descriptor x.from x.to o.0 o.1
 
   pub sacl_held : (w : List ℕ) → w ≡ part_in q.descriptor f.sacl.from f.sacl.to → w ≡ sacl_of q.descriptor
   sacl_held w h =
-      part_handed q.descriptor w (parts_of q.descriptor) (λ (x : Parts). x.sacl)
-      (h ∙ ap (λ (g : Findings). part_in q.descriptor g.sacl.from g.sacl.to) reports.taken.is)
-      (parts_bounds q.descriptor).sacl refl
+      let x : Extent = (parts_of q.descriptor).sacl in
+      let o = (parts_bounds q.descriptor).sacl in
+      h ∙ ap (λ (g : Findings). part_in q.descriptor g.sacl.from g.sacl.to) reports.taken.is ∙ part_in_inside q.descriptor x.from x.to o.0 o.1
 
   answer_held : (a : Answer) → a ≡ answer_of q.kind q.mask f.found → a ≡ by_lists q t
   answer_held a h = h ∙ ap (λ (g : Findings). answer_of q.kind q.mask g.found) reports.taken.is

@@ -2,7 +2,7 @@
 -- is found of it all.
 -- Assumes nothing.
 use Prim.Native.Nat.{ℕ, zero, suc, ◌<◌, ◌≤◌}
-use mathlib.Core.Path.{◌≡◌, refl, ap, ap₂, ◌∙◌}
+use mathlib.Core.Path.{◌≡◌, refl, sym, ap, ap₂, ◌∙◌}
 use mathlib.Core.List.{List}
 use mathlib.Core.Bool.{Bool, true, false}
 use lib.Bits.{bit_and}
@@ -15,6 +15,8 @@ use Rattle.passes.specs.NormalEvaluation.{list_gives, normal_of}
 use Rattle.passes.specs.Confinement.{confines, everything}
 use Rattle.passes.specs.Chains.{shown, Tables, tables, chains_of}
 use Rattle.passes.specs.OneWalk.{walked_of, listed_by, normal_by}
+use Rattle.passes.specs.Crowds.{shown_in}
+use Rattle.passes.specs.declared.matching.Crowd.{Crowd}
 use Rattle.passes.specs.declared.matching.Hits.{Hits}
 use Rattle.passes.specs.declared.walk.Walked.{Walked}
 use Rattle.passes.proofs.CrowdsLaws.{Alike, hits_alike, walked_alike}
@@ -44,6 +46,15 @@ module _ (attrs : Bool) (l : List ℕ) (at : ℕ) (h0 s0 heads seats : List ℕ)
       ap₂ (λ (h s : List ℕ). among allow (shown h s l) w) first second
       ∙ chains_say h0 s0 (λ k. ap (λ (h : List ℕ). get_or h k 0) clear ∙ zeros 512 k) (ap length clear ∙ length-replicate {A = ℕ} 512 0)
       narrow attrs l at short few made refl allow w
+
+-- the crowd that they make, with its hits
+module _ (ms ns : List Member) (same : Alike ms ns) (owner self : List ℕ) (c : Crowd) (shows : shown_in c ≡ ms)
+    (hits : c.hits ≡ hits_of ms owner self) where
+  pub crowd_alike : Alike (shown_in c) ns
+  crowd_alike allow w = ap (λ (m : List Member). among allow m w) shows ∙ same allow w
+
+  pub crowd_hits : c.hits ≡ hits_of (shown_in c) owner self
+  crowd_hits = hits ∙ ap (λ (m : List Member). hits_of m owner self) (sym shows)
 
 -- ---- those whom the tables show answer as the crowd does
 

@@ -1,4 +1,5 @@
--- Laws of findings (specs: Findings). `findings-..`: the ways out of `findings_in`, one for each number, and what is found. `Taken`: a
+-- Laws of findings (specs: Findings). `number_some`: a refusal has a number. `token_number`: the numbers of a token's
+-- record are the page's. `findings-..`: the ways out of `findings_in`, one for each number, and what is found. `Taken`: a
 -- question for which something is found. `past_stopped`, `past_taken`: the report on a question (specs: Reported) is read off what is
 -- found, whatever the mask. `report-..`: kind and mask come before it.
 -- Assumes nothing.
@@ -20,9 +21,37 @@ use Rattle.answers.specs.Granted.{answer_of, refused}
 use Rattle.access.specs.Status.{Question, self_fits, descriptor_number, policy_number, findings, events_for}
 use Rattle.access.specs.Status.{answer_to, after_token, with_token, checked}
 use Rattle.access.specs.Reported.{report, refusal, trail_for, report_of, report_past}
-use Rattle.access.specs.Findings.{stopped, accepted, found_after, findings_of}
+use Rattle.tokens.specs.Answers.{number_of as token_number_of}
+use Rattle.tokens.specs.declared.refusal.Refusal.{Refusal as TokenRefusal}
+use Rattle.tokens.specs.declared.refusal.Refusal.TheVariants as token
+use Rattle.access.specs.Refusals.{number_of, of_token}
+use Rattle.access.specs.declared.question.Refusal.{Refusal}
+use Rattle.access.specs.declared.question.Refusal.TheVariants.{UnknownKind, ForeignMask, TokenMisshapen, TokenBreaksRule, SelfUnfit}
+use Rattle.access.specs.declared.question.Refusal.TheVariants.{DescriptorMisshapen, Ownerless, ForeignEntry, PolicyMisshapen, PolicyUnread}
+use Rattle.access.specs.declared.question.Refusal.TheVariants.{TooLong, FileMisshapen}
+use Rattle.access.specs.Findings.{Findings, stopped, accepted, found_after, findings_of, findings_for}
 use Rattle.answers.specs.declared.answer.Answer.{Answer}
-use Rattle.access.specs.declared.answer.Findings.{Findings}
+
+-- a refusal has a number
+pub number_some : (r : Refusal) → (number_of r ≡ 0 → ⊥)
+number_some UnknownKind e = absurd (omega arith)
+number_some ForeignMask e = absurd (omega arith)
+number_some TokenMisshapen e = absurd (omega arith)
+number_some TokenBreaksRule e = absurd (omega arith)
+number_some SelfUnfit e = absurd (omega arith)
+number_some DescriptorMisshapen e = absurd (omega arith)
+number_some Ownerless e = absurd (omega arith)
+number_some ForeignEntry e = absurd (omega arith)
+number_some PolicyMisshapen e = absurd (omega arith)
+number_some PolicyUnread e = absurd (omega arith)
+number_some TooLong e = absurd (omega arith)
+number_some FileMisshapen e = absurd (omega arith)
+
+-- those of a token's record have the same numbers
+pub token_number : (e : TokenRefusal) → number_of (of_token e) ≡ token_number_of e
+token_number token.Misshapen = refl
+token_number token.BreaksRule = refl
+token_number token.TooLong = refl
 
 -- ---- the ways out of `findings_in`
 
@@ -56,10 +85,6 @@ module _ (kind : ℕ) (token self d p : List ℕ) where
           findings_found e = rw (read, kept, fits, eq-eqb (descriptor_number d) 0 whole, eq-eqb (policy_number p) 0 e)
 
 -- ---- a question for which something is found
-
--- the findings of a question
-abbrev pub findings_for : Question → Findings
-findings_for q = findings_of q.kind q.token q.self q.descriptor q.policy
 
 pub record Taken (q : Question) (f : Findings) : Type 0 where
   pub token : Token

@@ -19,7 +19,7 @@ use Rattle.records.proofs.CrowdLaws.{crowd_listed}
 use Rattle.policy.specs.Policy.{standing_of}
 use Rattle.policy.specs.Rules.{rules_of, unruled, some_audit, some_staged_audit}
 use Rattle.policy.specs.ByLengths.{rules_by_lengths}
-use Rattle.policy.specs.declared.shape.Standing.TheVariants.{Sound}
+use Rattle.policy.specs.Standing.Standing.{Sound}
 use Rattle.policy.proofs.PolicyLaws.{sound_by_lengths}
 use Rattle.policy.proofs.RulesLaws.{audits_some, staged_audits_some}
 use Rattle.audit.specs.Trail.{trail_bytes}

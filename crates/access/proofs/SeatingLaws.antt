@@ -3,16 +3,27 @@
 use Prim.Native.Nat.{ℕ, zero, suc, ◌+◌, ◌≤◌}
 use mathlib.Core.Bool.{Bool, true, false, cond}
 use mathlib.Core.List.{List, [], ◌∷◌}
-use mathlib.Core.Path.{◌≡◌}
+use mathlib.Core.Path.{◌≡◌, refl, sym, ◌∙◌}
 use native.Mathlib.Omega.{arith}
-use borrow.Author.Tests.{ltb-true}
+use borrow.Author.Tests.{ltb-true, eqb-true}
 use lib.Dec.{ltb, eqb}
 use lib.ListN.{length}
 use Rattle.base.proofs.BoolLaws.{both}
-use Rattle.base.specs.Bytes.{part}
+use Rattle.std.specs.Prelude.{Option, None, Some}
+use Rattle.std.specs.Option.{unwrap_or}
+use Rattle.base.specs.Bytes.{part, found}
 use Rattle.sids.specs.Sid.{sid_end}
 use Rattle.records.specs.Crowd.{plain, width, member_at, members_at, crowd_at, user_place}
 use Rattle.access.specs.Evaluating.{beside, few, Seatable}
+
+-- a place that is answered as an option, or 0
+pub place_or_front : (n e : ℕ) (p : Option ℕ) → p ≡ found n → e ≡ unwrap_or p 0 → e ≡ n
+unfolding found
+place_or_front n e p q r = r ∙ rw q (go (eqb n 0) refl)
+  where
+    go : (t : Bool) → eqb n 0 ≡ t → unwrap_or (cond t None (Some n)) 0 ≡ n
+    go true z = sym (eqb-true n 0 z)
+    go false z = refl
 
 members_few : (attrs : Bool) (s : List ℕ) (n at : ℕ) → length (members_at attrs s n at) ≤ n
 unfolding members_at

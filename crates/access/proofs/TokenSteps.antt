@@ -3,7 +3,7 @@
 -- confined_few, held_limits).
 -- Assumes nothing.
 use Prim.Native.Nat.{ℕ, ◌≤◌}
-use mathlib.Core.Path.{◌≡◌, refl, sym, ap, ◌∙◌}
+use mathlib.Core.Path.{◌≡◌, refl, ap, ◌∙◌}
 use mathlib.Core.List.{List, []}
 use mathlib.Core.Bool.{Bool, true, false, cond, not}
 use native.Mathlib.Omega.{arith}
@@ -16,10 +16,14 @@ use Rattle.base.proofs.PlaceLaws.{Stands}
 use Rattle.lists.proofs.ByLengthLaws.{dacl_by_length}
 use Rattle.sids.proofs.SidLaws.{sid_end_short}
 use Rattle.lists.specs.Descriptor as descriptor
-use Rattle.lists.specs.declared.descriptor.Parts.{Parts}
-use Rattle.lists.specs.declared.descriptor.Verdict.{Verdict}
-use Rattle.lists.specs.declared.descriptor.Verdict.TheVariants.{Whole, Ownerless, ForeignEntry}
-use Rattle.lists.specs.declared.descriptor.Verdict.TheVariants as verdict
+use Rattle.lists.specs.Handed.{refused_by, handed}
+use Rattle.lists.specs.declared.descriptor.Descriptor.{Descriptor}
+use Rattle.lists.specs.declared.descriptor.Refusal.{Refusal}
+use Rattle.lists.specs.declared.descriptor.Refusal.TheVariants as why
+use Rattle.lists.specs.Descriptor.{Parts}
+use Rattle.lists.specs.Descriptor.{Verdict}
+use Rattle.lists.specs.Descriptor.Verdict.{Whole, Ownerless, ForeignEntry}
+use Rattle.lists.specs.Descriptor.{Verdict as verdict}
 use Rattle.records.specs.Token.{Group, Token, confined}
 use Rattle.records.specs.Shaped.{ShapedConfined, Shaped}
 use Rattle.records.specs.Fields.{confinement_bytes}
@@ -28,26 +32,27 @@ use Rattle.records.specs.TokenRules.{keeps}
 use Rattle.records.specs.FlatListing.{flat_writer, listing_of}
 use Rattle.records.specs.Crowd.{plain, shown, crowd_at, confined_place}
 use Rattle.records.specs.Converters.{converted, full_result, refusal, as_listing}
-use Rattle.tokens.specs.Judging.{judged_of}
-use Rattle.tokens.specs.declared.flat.Extent.{Extent}
-use Rattle.tokens.specs.declared.judging.Judged.{Judged}
+use Rattle.tokens.specs.Judging.{Judged, judged_of}
 use Rattle.records.proofs.RoundTrip.{record_form}
 use Rattle.records.proofs.LimitLaws.{listing_short}
 use Rattle.records.proofs.CrowdLaws.{confinement_stand, crowd_listed, confined_listed}
-use Rattle.tokens.proofs.ConvertLaws.{Listed}
 use Rattle.lists.specs.Descriptor.{parts_of, owner_of, dacl_of}
 use Rattle.policy.specs.Policy as policy
 use Rattle.policy.specs.Policy.{standing_of}
-use Rattle.policy.specs.declared.shape.Standing.{Standing}
-use Rattle.policy.specs.declared.shape.Standing.TheVariants.{Sound, Misshapen, Unread}
+use Rattle.policy.specs.Standing.{Standing, judged}
+use Rattle.policy.specs.Standing.Standing.{Sound, Misshapen, Unread}
+use Rattle.policy.specs.declared.shape.Refusal.{Refusal as Fault}
+use Rattle.policy.specs.declared.shape.Refusal.TheVariants as fault
+use Rattle.std.specs.Prelude.{Ok, Err}
+use Rattle.access.specs.Refusals.{number_of, of_descriptor, of_policy}
 use Rattle.policy.specs.Rules.{rules_of}
 use Rattle.policy.specs.ByLengths.{rules_by_lengths}
 use Rattle.policy.proofs.PolicyLaws.{sound_by_lengths}
 use Rattle.access.specs.Status.{descriptor_number, policy_number, dacl_in, findings}
 use Rattle.access.specs.Evaluating.{dacl_as, found_in}
 use Rattle.answers.specs.declared.answer.Found.{Found}
-use Rattle.access.specs.declared.answer.Findings.{Findings}
-use Rattle.access.specs.Findings.{stopped, accepted, findings_of}
+use Rattle.access.specs.Findings.{Findings, stopped, accepted, findings_of, ListedIn}
+use Rattle.tokens.specs.declared.flat.Listed.{Listed}
 use Rattle.access.proofs.FindingsLaws.{findings_misshapen, findings_broken}
 use Rattle.access.proofs.EvaluatingLaws.{found_listed}
 
@@ -74,7 +79,7 @@ abbrev unsound : Judged
 unsound = record { status = 4; confined_at = 0 }
 
 -- the token of an accepted record
-pub record Held (s : List ℕ) (r : Extent) (room : List ℕ) : Type 0 where
+pub record Held (s : List ℕ) (r : Listed) (room : List ℕ) : Type 0 where
   pub token : Token
   pub end : ℕ
   pub read : read_record s ≡ some token end
@@ -82,9 +87,9 @@ pub record Held (s : List ℕ) (r : Extent) (room : List ℕ) : Type 0 where
   pub bytes : take r.length room ≡ listing_of token
   pub place : r.confined_at ≡ confined_place token
 
-pub held : (s : List ℕ) (r : Extent) (room : List ℕ) → Listed s r room → r.status ≡ 0 → Held s r room
+pub held : (s : List ℕ) (r : Listed) (room : List ℕ) → ListedIn s room r → 0 ≡ (as_listing s).status → Held s r room
 unfolding as_listing judged_of
-held s r room o z = go (read_record s) refl (sym z ∙ o.status) o.bytes o.place
+held s r room o z = go (read_record s) refl z o.bytes o.place
   where
     go : (x : Read Token) → read_record s ≡ x → ◌≡◌ {A = ℕ} 0 (converted listing_of x).status →
         take r.length room ≡ (converted listing_of x).bytes → r.confined_at ≡ (judged_of x).confined_at → Held s r room
@@ -97,30 +102,67 @@ held s r room o z = go (read_record s) refl (sym z ∙ o.status) o.bytes o.place
         by true f q' b' p' = record { token = t; end = end; read = e; kept = f; bytes = b'; place = p' }
         by false f q' b' p' = absurd (omega arith)
 
-pub token_refused : (kind : ℕ) (s self d p : List ℕ) (r : Extent) (room : List ℕ) → Listed s r room → (r.status ≡ 0 → ⊥) →
-    findings_of kind s self d p ≡ stopped r.status
+pub token_refused : (kind : ℕ) (s self d p : List ℕ) (n : ℕ) → n ≡ (as_listing s).status → (n ≡ 0 → ⊥) →
+    findings_of kind s self d p ≡ stopped n
 unfolding as_listing
-token_refused kind s self d p r room o n = go (read_record s) refl o.status
+token_refused kind s self d p m o n = go (read_record s) refl o
   where
-    go : (x : Read Token) → read_record s ≡ x → r.status ≡ (converted listing_of x).status → findings_of kind s self d p ≡ stopped r.status
+    go : (x : Read Token) → read_record s ≡ x → m ≡ (converted listing_of x).status → findings_of kind s self d p ≡ stopped m
     go none e q = rw q (findings_misshapen kind s self d p e)
     go (some t end) e q = by (keeps t) refl q
       where
-        by : (k : Bool) → keeps t ≡ k → r.status ≡ (cond k (full_result (listing_of t)) (refusal 4)).status →
-            findings_of kind s self d p ≡ stopped r.status
+        by : (k : Bool) → keeps t ≡ k → m ≡ (cond k (full_result (listing_of t)) (refusal 4)).status →
+            findings_of kind s self d p ≡ stopped m
         by true f q' = absurd (n q')
         by false f q' = rw q' (findings_broken kind s self d p t end e f)
 
--- the room after a refusal, of which nothing is said
-pub stopped_room : (n : ℕ) (r : Findings) (room s : List ℕ) → r ≡ stopped n → (n ≡ 0 → ⊥) →
-    (r.status ≡ 0 → take r.length room ≡ (as_listing s).bytes) × (r.length ≤ length room)
-stopped_room n r room s e h =
-    let l : r.length ≡ 0 = ap (λ (x : Findings). x.length) e in
-    (λ z. absurd (h (sym (ap (λ (x : Findings). x.status) e) ∙ z)), omega (arith, l))
+-- what reading a descriptor answers has the descriptor's number, and its parts
+pub descriptor_refused : (p : Parts) (e : Refusal) → Err e ≡ handed p → number_of (of_descriptor e) ≡ descriptor.number_of p.verdict
+unfolding descriptor.number_of
+descriptor_refused p e h = go p.verdict h
+  where
+    d : Descriptor
+    d = record { null = p.null; owner = p.owner; group = p.group; sacl = p.sacl; dacl = p.dacl }
+
+    go : (v : Verdict) → Err e ≡ refused_by v d → number_of (of_descriptor e) ≡ descriptor.number_of v
+    go Whole h = cc
+    go verdict.Misshapen h = let z : e ≡ why.Misshapen = cc in rw z refl
+    go Ownerless h = let z : e ≡ why.Ownerless = cc in rw z refl
+    go ForeignEntry h = let z : e ≡ why.ForeignEntry = cc in rw z refl
+
+pub record ReadParts (p : Parts) (x : Descriptor) : Type 0 where
+  pub whole : descriptor.number_of p.verdict ≡ 0
+  pub is : x ≡ record { null = p.null; owner = p.owner; group = p.group; sacl = p.sacl; dacl = p.dacl }
+
+pub descriptor_read : (p : Parts) (x : Descriptor) → Ok x ≡ handed p → ReadParts p x
+unfolding descriptor.number_of
+descriptor_read p x h = go p.verdict refl h
+  where
+    d : Descriptor
+    d = record { null = p.null; owner = p.owner; group = p.group; sacl = p.sacl; dacl = p.dacl }
+
+    go : (v : Verdict) → p.verdict ≡ v → Ok x ≡ refused_by v d → ReadParts p x
+    go Whole q h = let z : x ≡ d = cc in record { whole = rw q refl; is = z }
+    go verdict.Misshapen q h = cc
+    go Ownerless q h = cc
+    go ForeignEntry q h = cc
+
+-- what the judge of a policy answers has the policy's number
+pub policy_refused : (v : Standing) (e : Fault) → Err e ≡ judged v → number_of (of_policy e) ≡ policy.number_of v
+unfolding policy.number_of
+policy_refused Sound e h = cc
+policy_refused Misshapen e h = let z : e ≡ fault.Misshapen = cc in rw z refl
+policy_refused Unread e h = let z : e ≡ fault.Unread = cc in rw z refl
+
+pub policy_passed : (v : Standing) → Ok tt ≡ judged v → policy.number_of v ≡ 0
+unfolding policy.number_of
+policy_passed Sound h = refl
+policy_passed Misshapen h = cc
+policy_passed Unread h = cc
 
 -- what is found over the listing is what the rules say of the token
 pub found_whole :
-    (kind : ℕ) (s : List ℕ) (r : Extent) (room : List ℕ) (t : Held s r room) → T (are_bytes s) →
+    (kind : ℕ) (s : List ℕ) (r : Listed) (room : List ℕ) (t : Held s r room) → T (are_bytes s) →
     (l owner list self d p : List ℕ) (present : Bool) (f : Found) →
     l ≡ take r.length room →
     owner ≡ owner_of d →
@@ -145,9 +187,10 @@ found_whole kind s r room t bytes l owner list self d p present f listing named 
     (found_listed kind t.token (owner_of d) self (dacl_in d) (rules_of p) o)
 
 -- and it is handed out with the listing's length and the places of owner and SACL
-pub findings_made : {f : Found} (g : Found) (t : Token) (d : List ℕ) {n : ℕ} (p : Parts) → f ≡ g → n ≡ length (listing_of t) → p ≡ parts_of d →
-    ◌≡◌ {A = Findings} (record { status = 0; found = f; length = n; owner = p.owner; sacl = p.sacl }) (accepted t d g)
-findings_made g t d p e l q = rw (e, l, q)
+pub findings_made : {f : Found} (g : Found) (t : Token) (d : List ℕ) {n : ℕ} (x : Descriptor) → f ≡ g → n ≡ length (listing_of t) →
+    ReadParts (parts_of d) x →
+    ◌≡◌ {A = Findings} (record { status = 0; found = f; length = n; owner = x.owner; sacl = x.sacl }) (accepted t d g)
+findings_made g t d x e l r = rw (e, l, r.is)
 
 -- ---- how long a listing and its crowds are at most
 
@@ -175,7 +218,7 @@ confined_few t o = go (confined t.flags) refl
         rw (sid_end_short (listing_of t) (confined_place t) (omega (arith, l, z))) (omega arith)
 
 -- of the listing of an accepted record, as it is handed to the evaluation
-pub held_limits : (s : List ℕ) (r : Extent) (room : List ℕ) (t : Held s r room) → T (are_bytes s) → (l : List ℕ) → l ≡ take r.length
+pub held_limits : (s : List ℕ) (r : Listed) (room : List ℕ) (t : Held s r room) → T (are_bytes s) → (l : List ℕ) → l ≡ take r.length
     room →
     (length l ≤ 22940) × ((length (crowd_at true l 12) ≤ 257) × (length (crowd_at false l r.confined_at) ≤ 257))
 held_limits s r room t bytes l listing =

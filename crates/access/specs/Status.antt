@@ -23,6 +23,7 @@ use Rattle.answers.specs.Granted.{refused, answer_of, flagged}
 use Rattle.access.specs.Evaluated.{found_of, sought_of}
 use Rattle.answers.specs.declared.answer.Answer.{Answer}
 use Rattle.answers.specs.declared.answer.Found.{Found}
+use Rattle.access.specs.declared.question.Question.{Question as Put}
 
 -- "A question has an object kind, a desired mask, a token record, a self identity (may be empty), a self-relative descriptor and one policy (may be
 -- empty)."
@@ -33,6 +34,18 @@ pub record Question : Type 0 where
   pub self : List ℕ
   pub descriptor : List ℕ
   pub policy : List ℕ
+
+-- the question that the code is handed
+abbrev pub posed : Put → Question
+posed q =
+    record {
+      kind = q.kind;
+      mask = q.mask.0;
+      token = q.token.now;
+      self = q.me.now;
+      descriptor = q.descriptor.now;
+      policy = q.policy.now;
+    }
 
 -- 5: "self identity neither empty nor exactly one SID"
 unfoldable pub self_fits : List ℕ → Bool

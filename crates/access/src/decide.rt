@@ -1,94 +1,49 @@
 // The check: a question's kind and mask, then what is found, then the answer.
 ghost use Rattle.std.specs.Prelude.{◌≡◌, length};
 ghost use Rattle.masks.specs.KindsAndMasks.{known_kind};
-ghost use Rattle.access.specs.Status.{checked};
+ghost use Rattle.access.specs.Status.{posed, checked};
 ghost use Rattle.access.specs.Reported.{report_of, lending, in_buffer, Lent};
+ghost use Rattle.access.specs.Refusals.{handed};
 
-use crate::answer::{Traced, untraced};
+use crate::answer::{Traced, handed};
 use crate::answering::answered;
+use crate::question::{Question, Refusal};
 use answers::Answer;
-use lists::Rights;
 
 // 1 file, 2 key.
 fn is_kind(kind: u32) -> bool
     ensures { result ≡ known_kind kind }
 {
-    if kind == 1 {
-        return true;
-    }
-    kind == 2
+    matches!(kind, 1 | 2)
 }
 
 // The report on a question, where a buffer is lent for its trail or not.
-pub fn reported(
-    kind: u32,
-    mask: Rights,
-    token: &[u8],
-    me: &[u8],
-    descriptor: &[u8],
-    policy: &[u8],
-    out: &mut [u8],
-    lent: bool,
-) -> Traced
-    ensures { Lent (in_buffer (length out.old) (lending lent (report_of (record {
-      kind = kind;
-      mask = mask.0;
-      token = token.now;
-      self = me.now;
-      descriptor = descriptor.now;
-      policy = policy.now;
-    })))) out.old out.new result }
+// kept: `lent` beside `out`, for as `Option<&mut [u8]>` the proof does not close: tried on functions that
+// pass one on, as `answered` does, which could not say what is left in the buffer.
+pub fn reported(q: Question, out: &mut [u8], lent: bool) -> Result<Traced, Refusal>
+    ensures { Lent (in_buffer (length out.old) (lending lent (report_of (posed q.entry))))
+        out.old out.new (handed result) }
 {
-    if !is_kind(kind) {
-        return untraced(1);
+    if !is_kind(q.kind) {
+        return Err(Refusal::UnknownKind);
     }
-    if !masks::legal(kind, mask) {
-        return untraced(2);
+    if !masks::legal(q.kind, q.mask) {
+        return Err(Refusal::ForeignMask);
     }
-    answered(kind, mask, token, me, descriptor, policy, out, lent)
+    answered(q, out, lent)
 }
 
-// The answer to a question. `me` is the self identity; it and the policy may be empty.
-pub fn check(
-    kind: u32,
-    mask: Rights,
-    token: &[u8],
-    me: &[u8],
-    descriptor: &[u8],
-    policy: &[u8],
-) -> Answer
-    ensures { result ≡ checked (record {
-      kind = kind;
-      mask = mask.0;
-      token = token.now;
-      self = me.now;
-      descriptor = descriptor.now;
-      policy = policy.now;
-    }) }
+// The answer to a question.
+pub fn check(q: Question) -> Answer
+    ensures { result ≡ checked (posed q.entry) }
 {
-    let mut none = [0u8; 1];
-    let t = reported(kind, mask, token, me, descriptor, policy, &mut none, false);
-    t.answer
+    handed(reported(q, &mut [], false)).answer
 }
 
 // The answer to a question, and its trail at the front of `out`: 11 where that is too short.
-pub fn trail(
-    kind: u32,
-    mask: Rights,
-    token: &[u8],
-    me: &[u8],
-    descriptor: &[u8],
-    policy: &[u8],
-    out: &mut [u8],
-) -> Traced
-    ensures { Lent (in_buffer (length out.old) (report_of (record {
-      kind = kind;
-      mask = mask.0;
-      token = token.now;
-      self = me.now;
-      descriptor = descriptor.now;
-      policy = policy.now;
-    }))) out.old out.new result }
+pub fn trail(q: Question, out: &mut [u8]) -> Traced
+    ensures { Lent (in_buffer (length out.old) (report_of (posed q.entry)))
+        out.old out.new result }
 {
-    reported(kind, mask, token, me, descriptor, policy, out, true)
+    handed(reported(q, out, true))
 }

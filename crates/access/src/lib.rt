@@ -8,6 +8,8 @@ mod auditing;
 mod decide;
 mod evaluate;
 mod finding;
+mod question;
 
-pub use answer::{Traced, untraced};
+pub use answer::{Traced, handed};
 pub use decide::{check, reported, trail};
+pub use question::{Question, Refusal};

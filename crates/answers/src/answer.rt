@@ -33,6 +33,8 @@ pub struct Answer {
 
 // An answer that is refused with a number: "On refusal mask 0, allowed no, flag clear"; "A refusal
 // zeroes all four" masks.
+// kept: a status number in each answer, for C is handed it, and `bad_input` and `refused_check` of
+// promises/proofs/Promises.antt speak of it; `access::Refusal` stands behind it.
 pub fn refused(status: u32) -> Answer
     ensures { result ≡ refused status }
 {
@@ -53,13 +55,7 @@ fn is_allowed(kind: u32, mask: Rights, granted: Rights) -> bool
     ensures { result ≡ allowed_of kind mask.0 granted.0 }
 {
     let wanted = masks::explicit(kind, mask);
-    if granted.0 & wanted.0 != wanted.0 {
-        return false;
-    }
-    if mask.0 & Tally::MAXIMUM.0 == 0 {
-        return true;
-    }
-    granted.0 != 0
+    granted.0 & wanted.0 == wanted.0 && (mask.0 & Tally::MAXIMUM.0 == 0 || granted.0 != 0)
 }
 
 // The answer for a mask, of a question that is not refused.
@@ -85,17 +81,8 @@ pub fn read_off(kind: u32, mask: Rights, f: Found) -> Answer
 pub fn flagged(a: Answer, raised: bool) -> Answer
     ensures { result ≡ flagged a raised }
 {
-    let normal = a.normal;
-    let confined = a.confined;
-    let ruled = a.ruled;
-    let granted = a.granted;
     Answer {
-        status: a.status,
-        normal,
-        confined,
-        ruled,
-        granted,
-        allowed: a.allowed,
-        staged: base::either(a.staged, raised),
+        staged: a.staged || raised,
+        ..a
     }
 }

@@ -11,10 +11,9 @@ ghost use Rattle.std.specs.Prelude.{◌≡◌, take, IfOk, IfSome};
 use answers::Answer;
 use lists::Rights;
 use std::alloc::Global;
-use std::env::{Env, FillError};
-use std::fs::File;
-use std::io;
+use std::env::Env;
 use std::io::Read;
+use std::{fmt, io};
 
 // What is asked of the question.
 #[derive(Clone, Copy)]
@@ -24,33 +23,38 @@ enum Task {
     Trail,
 }
 
-fn flag_word(flag: bool) -> &'static str {
-    if flag {
-        return "yes";
+// A flag, as it is printed.
+#[derive(Clone, Copy)]
+struct Flag(bool);
+
+impl fmt::Display for Flag {
+    fn fmt<W: fmt::Write>(&self, f: &mut fmt::Formatter<W>) -> fmt::Result {
+        f.write_str(if self.0 { "yes" } else { "no" })
     }
-    "no"
 }
 
-// Each function that prints fails where not all of it was written.
-fn print_refusal(rt: &impl Print, status: u32) -> io::Result<()> {
-    println!(rt; "refused {status}")
-}
+// The line of an answer.
+#[derive(Clone, Copy)]
+struct Line(Answer);
 
-fn print_findings(rt: &impl Print, a: Answer) -> io::Result<()> {
-    let granted = a.granted.0;
-    let allowed = flag_word(a.allowed);
-    let staged = flag_word(a.staged);
-    println!(rt; "granted 0x{granted:08x} allowed {allowed} staged {staged}")
-}
-
-fn print_answer(rt: &impl Print, a: Answer) -> io::Result<()> {
-    if a.status != 0 {
-        return print_refusal(rt, a.status);
+impl fmt::Display for Line {
+    fn fmt<W: fmt::Write>(&self, f: &mut fmt::Formatter<W>) -> fmt::Result {
+        let a = self.0;
+        if a.status != 0 {
+            return write!(f, "refused {}", a.status);
+        }
+        let granted = a.granted.0;
+        let allowed = Flag(a.allowed);
+        let staged = Flag(a.staged);
+        write!(
+            f,
+            "granted 0x{granted:08x} allowed {allowed} staged {staged}"
+        )
     }
-    print_findings(rt, a)
 }
 
-// A mask as eight digits behind its name.
+// A mask as eight digits behind its name. Each function that prints fails where not all of it was
+// written.
 fn print_step(rt: &impl Print, name: &str, mask: Rights) -> io::Result<()> {
     let bits = mask.0;
     println!(rt; "{name} 0x{bits:08x}")
@@ -58,42 +62,43 @@ fn print_step(rt: &impl Print, name: &str, mask: Rights) -> io::Result<()> {
 
 // The answer's line, then a line for each mask, on refusal too.
 fn print_steps(rt: &impl Print, a: Answer) -> io::Result<()> {
-    print_answer(rt, a)?;
+    rt.println(Line(a))?;
     print_step(rt, "normal", a.normal)?;
     print_step(rt, "confined", a.confined)?;
     print_step(rt, "policy", a.ruled)?;
     print_step(rt, "granted", a.granted)
 }
 
-// An event of a trail, with the place after it; ok is false where there is none.
+// An event of a trail.
 #[derive(Clone, Copy)]
 struct Event {
-    ok: bool,
     source: u64,
     entry: u64,
     mask: u64,
-    next: usize,
 }
 
-// The event that starts at a place: three numbers, one after the other.
-fn event_at(trail: &[u8], at: usize) -> Event {
-    let source = base::number32(trail, at);
-    let entry = base::number32(trail, source.next);
-    let mask = base::number32(trail, entry.next);
-    Event {
-        ok: source.ok && entry.ok && mask.ok,
-        source: source.value,
-        entry: entry.value,
-        mask: mask.value,
-        next: mask.next,
+impl fmt::Display for Event {
+    fn fmt<W: fmt::Write>(&self, f: &mut fmt::Formatter<W>) -> fmt::Result {
+        let Event {
+            source,
+            entry,
+            mask,
+        } = *self;
+        write!(f, "event source {source} entry {entry} mask 0x{mask:08x}")
     }
 }
 
-fn print_event(rt: &impl Print, e: Event) -> io::Result<()> {
-    println!(rt;
-        "event source {} entry {} mask 0x{:08x}",
-        e.source, e.entry, e.mask
-    )
+// The event that starts at a place, three numbers one after the other, and the place after it.
+fn event_at(trail: &[u8], at: usize) -> Option<(Event, usize)> {
+    let source = base::number32(trail, at)?;
+    let entry = base::number32(trail, source.next)?;
+    let mask = base::number32(trail, entry.next)?;
+    let event = Event {
+        source: source.value,
+        entry: entry.value,
+        mask: mask.value,
+    };
+    Some((event, mask.next))
 }
 
 // A line for each event of the first `length` bytes. What the library wrote there is a trail; where
@@ -101,51 +106,33 @@ fn print_event(rt: &impl Print, e: Event) -> io::Result<()> {
 fn print_events(rt: &impl Print, trail: &[u8], length: usize) -> io::Result<()> {
     let mut at: usize = 0;
     while at < length {
-        let e = event_at(trail, at);
-        let next = e.next;
-        if !e.ok {
-            return Ok(());
+        match event_at(trail, at) {
+            Some((event, next)) if at < next => {
+                rt.println(event)?;
+                at = next;
+            }
+            _ => return Ok(()),
         }
-        if next <= at {
-            return Ok(());
-        }
-        print_event(rt, e)?;
-        at = next;
     }
     Ok(())
 }
 
 // The answer's line, then a line for each event; a refusal has none. The room is that of the
 // longest trail of a question file.
+// kept: buffers of a fixed size, here and for names: `trail_question` is lent one, and it cannot fail.
 fn print_trail(rt: &impl Print, file: &[u8]) -> io::Result<()> {
     let mut trail = [0u8; 36864];
     let t = questions::trail_question(file, &mut trail);
-    print_answer(rt, t.answer)?;
+    rt.println(Line(t.answer))?;
     print_events(rt, &trail, t.length)
 }
 
 fn print_told(rt: &impl Print, file: &[u8], t: Task) -> io::Result<()> {
     match t {
-        Task::Ask => print_answer(rt, questions::question(file)),
+        Task::Ask => rt.println(Line(questions::question(file))),
         Task::Why => print_steps(rt, questions::question(file)),
         Task::Trail => print_trail(rt, file),
     }
-}
-
-// What an error's text says before its number.
-fn reason(said: &str) -> &str {
-    let Some((why, _)) = said.split_once(" (os error ") else {
-        return said;
-    };
-    why
-}
-
-// Writes a line to standard error: what failed, and why, in the system's words.
-fn fail(rt: &HostRuntime, what: &[u8], error: &io::Error) -> io::Result<()> {
-    let said = format!(in rt.alloc(); "{error}")?;
-    let why = reason(&said);
-    rt.stderr().write_all(what)?;
-    eprintln!(rt; ": {why}")
 }
 
 // One byte more than the longest question has, so that a longer file is seen to be too long.
@@ -156,34 +143,16 @@ fn read<R: Read + Drop>(alloc: Global, input: R) -> io::Result<Vec<u8>>
     ensures { IfOk result (λ file. IfSome (R.remaining input)
         (λ bytes. file.items ≡ take 65537 bytes)) }
 {
-    let mut file = Vec::new(alloc);
-    input.take(LIMIT).read_to_end(&mut file)?;
-    Ok(file)
-}
-
-// What the system says of a name that is too long, and of one that is no text.
-const TOO_LONG: i32 = 36;
-
-const NO_TEXT: i32 = 84;
-
-// The bytes of the file that has a name, which has to be text.
-fn read_named(rt: &HostRuntime, name: &[u8]) -> io::Result<Vec<u8>> {
-    match str::from_utf8(name) {
-        Ok(path) => read(rt.alloc(), File::open(rt, path)?),
-        Err(_) => Err(io::Error::from_raw_os_error(NO_TEXT)),
-    }
+    files::read(alloc, input, LIMIT)
 }
 
 // Prints what is asked of what was read under a name, or says why it was not read.
 fn answer(rt: &HostRuntime, t: Task, name: &[u8], file: io::Result<Vec<u8>>) -> io::Result<()> {
-    let bytes = match file {
-        Ok(bytes) => bytes,
-        Err(e) => return fail(rt, name, &e),
+    let Some(bytes) = files::told(rt, name, file)? else {
+        return Ok(());
     };
-    match print_told(rt, &bytes, t) {
-        Ok(()) => Ok(()),
-        Err(e) => fail(rt, b"standard output", &e),
-    }
+    files::told(rt, b"standard output", print_told(rt, &bytes, t))?;
+    Ok(())
 }
 
 // The answer to standard input.
@@ -194,45 +163,39 @@ fn answer_input(rt: &HostRuntime, t: Task) -> io::Result<()> {
 // The answer to the file that an argument names.
 fn answer_named(rt: &HostRuntime, i: usize, t: Task) -> io::Result<()> {
     let mut path = [0u8; 4096];
-    let Ok(n) = rt.arg(i, &mut path) else {
-        return fail(rt, b"ask", &io::Error::from_raw_os_error(TOO_LONG));
+    let Some(n) = files::told(rt, b"ask", files::name(rt, i, &mut path))? else {
+        return Ok(());
     };
-    let name = &path[..n];
-    if base::same(name, b"-") {
-        return answer_input(rt, t);
-    }
-    answer(rt, t, name, read_named(rt, name))
-}
-
-// Whether there is an argument at a place.
-fn is_given(rt: &impl Env, i: usize) -> bool {
-    match rt.arg(i, &mut []) {
-        Err(FillError::NotPresent) => false,
-        _ => true,
+    match &path[..n] {
+        b"-" => answer_input(rt, t),
+        name => {
+            let file = files::open(rt, name).and_then(|file| read(rt.alloc(), file));
+            answer(rt, t, name, file)
+        }
     }
 }
 
-// Whether the first argument is this word; one that does not fit is longer.
-fn is_first(rt: &impl Env, word: &[u8]) -> bool {
-    let mut first = [0u8; 16];
-    match rt.arg(1, &mut first) {
-        Ok(n) => base::same(&first[..n], word),
-        Err(_) => false,
+// What the first argument asks for; one that does not fit is longer than each of the words.
+// kept: `token` has words of its own, so one function for both would take a table of them.
+fn wanted(rt: &impl Env) -> Option<Task> {
+    let mut word = [0u8; 16];
+    let n = rt.arg(1, &mut word).ok()?;
+    match &word[..n] {
+        b"why" => Some(Task::Why),
+        b"trail" => Some(Task::Trail),
+        _ => None,
     }
 }
 
 fn main(rt: HostRuntime) -> io::Result<()> {
-    if !is_given(&rt, 1) {
+    if !files::is_given(&rt, 1) {
         return answer_input(&rt, Task::Ask);
     }
-    if !is_given(&rt, 2) {
+    if !files::is_given(&rt, 2) {
         return answer_named(&rt, 1, Task::Ask);
     }
-    if !is_given(&rt, 3) && is_first(&rt, b"why") {
-        return answer_named(&rt, 2, Task::Why);
+    match wanted(&rt) {
+        Some(t) if !files::is_given(&rt, 3) => answer_named(&rt, 2, t),
+        _ => eprintln!(rt; "usage: ask [FILE|-] | ask why FILE|- | ask trail FILE|-"),
     }
-    if !is_given(&rt, 3) && is_first(&rt, b"trail") {
-        return answer_named(&rt, 2, Task::Trail);
-    }
-    eprintln!(rt; "usage: ask [FILE|-] | ask why FILE|- | ask trail FILE|-")
 }

@@ -1,5 +1,5 @@
--- An entry of a SACL by each test of the code, for `spot_at`, and whether it fires, for `fires`.
--- In order: the entry at a place (spot-at-..), where its SID lies (spot_sid), whether it fires (fires-..). Assumes nothing.
+-- An entry of a SACL by each test of the code, for `entry_at`, and whether it fires, for `fires`.
+-- In order: the entry at a place (spot-at-..), where its SID lies (spot_sid), as the code answers it (read_is), whether it fires (fires-..). Assumes nothing.
 use Prim.Native.Nat.{ℕ, ◌+◌, ◌≤◌}
 use mathlib.Core.Path.{◌≡◌, ◌∙◌}
 use mathlib.Core.List.{List}
@@ -7,6 +7,7 @@ use mathlib.Core.Bool.{true, false}
 use native.Mathlib.Omega.{arith}
 use lib.ListN.{length}
 use borrow.Author.Tests.{eq-eqb, ne_eqb}
+use Rattle.std.specs.Prelude.{Some}
 use Rattle.base.specs.Bytes.{byte_at, u32_at}
 use Rattle.base.specs.Bits.{and}
 use Rattle.sids.specs.Sid.{sid_end}
@@ -19,7 +20,8 @@ use Rattle.records.specs.Crowd.{Member}
 use Rattle.passes.specs.Matching.{matches}
 use Rattle.passes.specs.declared.matching.Hits.{Hits}
 use Rattle.audit.specs.Events.{Audit, other_spot, spot_at, flag_for, fires}
-use Rattle.audit.specs.declared.entry.Spot.{Spot}
+use Rattle.audit.specs.Spot.{Spot}
+use Rattle.audit.specs.Walking.{entry_of, read}
 use Rattle.audit.specs.declared.firing.Sought.{Sought}
 
 -- ---- the entry at a place
@@ -59,13 +61,13 @@ module _ (l : List ℕ) (at : ℕ) where
           let b = sid_end_bounds l (at + 8) (judged_sid false l at j some) in
           (omega (arith, b.0), omega (arith, b.1))
 
+-- an entry that stands there, as the code answers it
+pub read_is : (x y : Spot) → x ≡ y → (x.next ≡ 0 → ⊥) → Some (entry_of x) ≡ read y
+read_is x y e f = rw (← e, ne_eqb x.next 0 f)
+
 -- ---- whether it fires
 
 module _ (s : Sought) (ms : List Member) (h : Hits) (a : Audit) where
-  pub fires_other : a.audits ≡ false → fires s ms h a ≡ false
-  unfolding fires
-  fires_other k = rw k
-
   module _ (audit : a.audits ≡ true) where
     pub fires_inherit : (and a.flags 0x08 ≡ 0 → ⊥) → fires s ms h a ≡ false
     unfolding fires

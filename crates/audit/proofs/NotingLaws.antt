@@ -6,13 +6,14 @@
 use Prim.Native.Nat.{ℕ, ◌+◌, ◌/◌, ◌%◌, ◌^◌, ◌<◌, ◌≤◌}
 use mathlib.Core.Path.{◌≡◌, refl, sym, ap, ap₂, ◌∙◌}
 use mathlib.Core.List.{List, [], ◌∷◌, ◌++◌}
-use mathlib.Core.Bool.{Bool, true, false, not, cond}
+use mathlib.Core.Bool.{Bool, true, false, cond}
 use native.Mathlib.Nat.{add-zero}
 use native.Mathlib.Omega.{arith}
 use lib.Dec.{ltb}
 use lib.ListN.{length, set, length-append}
 use lib.Seq.{sets, length-sets}
 use borrow.Author.Tests.{lt-ltb, le-ltb}
+use Rattle.std.specs.Prelude.{Option, None, Some}
 use Rattle.base.specs.Sevens.{sevens, packed}
 use Rattle.base.proofs.WriteLaws.{sets_append, Writes, writes_start, writes_room, writes_more, writes_last}
 use Rattle.audit.specs.Noting.{noted, Noted, Room, fitting}
@@ -176,7 +177,7 @@ module _ {t : Bool} {out₀ : List ℕ} {o v : ℕ} {out : List ℕ} {n i : ℕ}
 
 -- ---- measured first, then written: n is the measure of w, and k the buffer after it, as l was before
 
-no_bytes : (w : List ℕ) → length w ≡ 0 → w ≡ []
+pub no_bytes : (w : List ℕ) → length w ≡ 0 → w ≡ []
 no_bytes [] e = refl
 no_bytes (b ∷ w) e = absurd (omega arith)
 
@@ -184,23 +185,27 @@ module _ {l k : List ℕ} {n : ℕ} {w : List ℕ} (x : Noted false l k 0 n w) w
   pub measured_room : n ≤ length k → Room true k 0 w
   measured_room h q = let p = x.place in omega arith
 
-  pub measured_nothing : n ≡ 0 → (true ≡ not (ltb (length l) (length w))) × Noted true l k 0 0 (fitting (length l) w)
+  -- what is answered, and what stands there then
+  abbrev pub Reported : Option ℕ → List ℕ → Type 0
+  Reported r m = (r ≡ cond (ltb (length l) (length w)) None (Some (length w))) × (m ≡ noted true l 0 (fitting (length l) w))
+
+  pub measured_nothing : n ≡ 0 → Reported (Some 0) k
   measured_nothing h =
       let p = x.place in
       let z : w ≡ [] = no_bytes w (omega arith) in
-      rw z (rw (le-ltb (length l) 0 (omega arith)) (refl, record { place = refl; bytes = x.bytes }))
+      rw z (rw (le-ltb (length l) 0 (omega arith)) (refl, x.bytes))
 
-  pub measured_none : length k < n → (false ≡ not (ltb (length l) (length w))) × Noted true l k 0 0 (fitting (length l) w)
+  pub measured_none : length k < n → Reported None k
   measured_none h =
       let p = x.place in
       let e = ap length x.bytes in
       let t : ltb (length l) (length w) ≡ true = lt-ltb (length l) (length w) (omega arith) in
-      (rw t, record { place = rw t; bytes = rw (t, x.bytes) })
+      (rw t, rw t x.bytes)
 
-  pub measured_all : n ≤ length k → {m : List ℕ} {r : ℕ} → Noted true k m 0 r w →
-      (true ≡ not (ltb (length l) (length w))) × Noted true l m 0 n (fitting (length l) w)
+  pub measured_all : n ≤ length k → {m : List ℕ} {r : ℕ} → Noted true k m 0 r w → Reported (Some n) m
   measured_all h y =
       let p = x.place in
+      let q : n ≡ length w = omega arith in
       let e = ap length x.bytes in
       let t : ltb (length l) (length w) ≡ false = le-ltb (length l) (length w) (omega arith) in
-      (rw t, record { place = rw t p; bytes = rw t (y.bytes ∙ ap (λ (b : List ℕ). sets b 0 w) x.bytes) })
+      (rw (t, q), rw t (y.bytes ∙ ap (λ (b : List ℕ). sets b 0 w) x.bytes))

@@ -1,185 +1,134 @@
--- The walk over a SACL, from one entry that fires to the next.
--- In order: the steps of the walk, for `next_fired` (fired_end, fired_stop, fired_here, fired_on); the events of the entries ahead, by the same
--- steps (events-..); the events by the walk, for its callers (fired_none, fired_some; of n entries in all walk_none,
--- walk_some). Assumes nothing.
+-- The walk over a SACL, from one entry that fires to the next. For `walk`.
+-- In order: an entry as the code answers it (read-..); the events of the entries from a number on, by each step (events_over, events_stop,
+-- events_other, events_passed, events_here); how many they are at most (events_short). Assumes nothing.
 use Prim.Native.Nat.{ℕ, zero, suc, ◌+◌, ◌-◌, ◌<◌, ◌≤◌}
 use mathlib.Core.Path.{◌≡◌, refl, sym, ap, ◌∙◌}
 use mathlib.Core.List.{List, [], ◌∷◌}
-use mathlib.Core.Bool.{Bool, true, false}
+use mathlib.Core.Bool.{Bool, true, false, cond}
 use native.Mathlib.Omega.{arith}
 use lib.Dec.{eqb}
-use borrow.Author.Tests.{eq-eqb, ne_eqb}
+use lib.ListN.{length}
+use Rattle.std.specs.Prelude.{None, Some}
+use Rattle.base.specs.Bytes.{u16_at}
 use Rattle.records.specs.Crowd.{Member}
 use Rattle.passes.specs.declared.matching.Hits.{Hits}
-use Rattle.audit.specs.Events.{Event, event, spot_at, audit_of, audits_at, fires, events_from}
-use Rattle.audit.specs.Walking.{none_fired, fired_at, fired_from}
-use Rattle.audit.specs.declared.entry.Spot.{Spot}
+use Rattle.audit.specs.Spot.{Spot}
+use Rattle.audit.specs.Events.{Audit, Event, event, spot_at, audit_of, audits_at, audits_of, fires, events_from, events_in}
+use Rattle.audit.specs.Walking.{made_of, entry_of, read, said_in}
+use Rattle.audit.specs.declared.entry.AuditEntry.{AuditEntry}
+use Rattle.audit.specs.declared.entry.Entry.{Entry}
 use Rattle.audit.specs.declared.firing.Sought.{Sought}
-use Rattle.audit.specs.declared.walk.Fired.{Fired}
 
-module _ (s : Sought) (ms : List Member) (h : Hits) (l : List ℕ) where
-  -- ---- the steps of the walk
+-- ---- an entry as the code answers it
+
+pub read_none : (x : Spot) → None ≡ read x → eqb x.next 0 ≡ true
+read_none x h = go (eqb x.next 0) refl h
+  where
+    go : (b : Bool) → eqb x.next 0 ≡ b → None ≡ cond b None (Some (entry_of x)) → eqb x.next 0 ≡ true
+    go true e f = e
+    go false e f = absurd (cc)
+
+pub read_some : (e : Entry) (x : Spot) → Some e ≡ read x → (e ≡ entry_of x) × (eqb x.next 0 ≡ false)
+read_some e x h = go (eqb x.next 0) refl h
+  where
+    go : (b : Bool) → eqb x.next 0 ≡ b → Some e ≡ cond b None (Some (entry_of x)) → (e ≡ entry_of x) × (eqb x.next 0 ≡ false)
+    go true p f = absurd (cc)
+    go false p f = (cc, p)
+
+-- whether it is an audit entry, and what that says
+made_none : (x : Spot) → cond x.audits (Some (made_of x)) None ≡ None → x.audits ≡ false
+made_none x h = go x.audits refl h
+  where
+    go : (b : Bool) → x.audits ≡ b → cond b (Some (made_of x)) None ≡ None → x.audits ≡ false
+    go true e f = absurd (cc)
+    go false e f = e
+
+made_some : (x : Spot) (a : AuditEntry) → cond x.audits (Some (made_of x)) None ≡ Some a → (x.audits ≡ true) × (a ≡ made_of x)
+made_some x a h = go x.audits refl h
+  where
+    go : (b : Bool) → x.audits ≡ b → cond b (Some (made_of x)) None ≡ Some a → (x.audits ≡ true) × (a ≡ made_of x)
+    go true e f = (e, cc)
+    go false e f = absurd (cc)
+
+-- ---- the events of the entries from a number on
+
+module _ (s : Sought) (ms : List Member) (h : Hits) (source : ℕ) (l : List ℕ) where
+  -- of n entries in all, those from number k on, which stands at a place
+  abbrev pub From : ℕ → ℕ → ℕ → List Event
+  From n k at = events_from s ms h source k (audits_at l (n - k) at)
+
+  pub start : events_in s ms h source l ≡ From (u16_at l 4) 0 8
+  unfolding audits_of
+  start = ap (λ (n : ℕ). events_from s ms h source 0 (audits_at l n 8)) (omega arith)
 
   module _ (n k at : ℕ) where
-    pub fired_end : n ≤ k → fired_from s ms h l (n - k) k at ≡ none_fired
-    unfolding fired_from
-    fired_end e = let z : n - k ≡ 0 = omega arith in rw z
-
-    -- from the entry that the code read
-    module _ (x : Spot) (more : k < n) (is : x ≡ spot_at l at) where
-      pub fired_stop : x.next ≡ 0 → fired_from s ms h l (n - k) k at ≡ none_fired
-      unfolding fired_from
-      fired_stop z = let e : n - k ≡ suc (n - (k + 1)) = omega arith in rw (e, ← is, eq-eqb x.next 0 z)
-
-      module _ (some : x.next ≡ 0 → ⊥) where
-        pub fired_here : fires s ms h (audit_of l x) ≡ true → fired_from s ms h l (n - k) k at ≡ fired_at k x
-        unfolding fired_from
-        fired_here f = let e : n - k ≡ suc (n - (k + 1)) = omega arith in rw (e, ← is, ne_eqb x.next 0 some, f)
-
-        pub fired_on : fires s ms h (audit_of l x) ≡ false →
-            fired_from s ms h l (n - k) k at ≡ fired_from s ms h l (n - (k + 1)) (k + 1) x.next
-        unfolding fired_from
-        fired_on f = let e : n - k ≡ suc (n - (k + 1)) = omega arith in rw (e, ← is, ne_eqb x.next 0 some, f)
-
-  -- ---- the events of the entries ahead
-
-  -- what the walk found, and the events from there
-  abbrev pub Met : ℕ → ℕ → ℕ → List Event → Fired → Type 0
-  Met source m k es f =
-      (k ≤ f.entry)
-      × ((f.entry < k + m)
-      × (es
-      ≡ event source f.entry f.mask.0
-      ∷ events_from s ms h source (f.entry + 1) (audits_at l (k + m - (f.entry + 1)) f.next)))
-
-  -- one entry more: what all that are ahead come to, and what the walk finds
-  module _ (source m k at : ℕ) where
-    abbrev all : List Event
-    all = events_from s ms h source k (audits_at l (suc m) at)
-
-    abbrev rest : List Event
-    rest = events_from s ms h source (k + 1) (audits_at l m (spot_at l at).next)
-
-    events_stop : eqb (spot_at l at).next 0 ≡ true → all ≡ []
+    pub events_over : n ≤ k → From n k at ≡ []
     unfolding audits_at events_from
-    events_stop e = rw e
+    events_over q = let z : n - k ≡ 0 = omega arith in rw z
 
-    events_here : eqb (spot_at l at).next 0 ≡ false → fires s ms h (audit_of l (spot_at l at)) ≡ true →
-        all ≡ event source k (spot_at l at).mask.0 ∷ rest
-    unfolding audits_at events_from
-    events_here e f = rw (e, f)
+    module _ (more : k < n) where
+      pub events_stop : None ≡ read (spot_at l at) → From n k at ≡ []
+      unfolding audits_at events_from
+      events_stop e = let m : n - k ≡ suc (n - (k + 1)) = omega arith in rw (m, read_none _ e)
 
-    events_on : eqb (spot_at l at).next 0 ≡ false → fires s ms h (audit_of l (spot_at l at)) ≡ false → all ≡ rest
-    unfolding audits_at events_from
-    events_on e f = rw (e, f)
+      module _ (e : Entry) (is : Some e ≡ read (spot_at l at)) where
+        -- the entry that stands there does not fire, or does
+        on : fires s ms h (audit_of l (spot_at l at)) ≡ false → From n k at ≡ From n (k + 1) e.next
+        unfolding audits_at events_from
+        on f =
+            let m : n - k ≡ suc (n - (k + 1)) = omega arith in
+            let p = read_some e _ is in
+            rw (m, p.1, f, p.0)
 
-    none_step : ((fired_from s ms h l m (k + 1) (spot_at l at).next).found ≡ false → rest ≡ []) →
-        (fired_from s ms h l (suc m) k at).found ≡ false → all ≡ []
-    unfolding fired_from
-    none_step ih e = go (eqb (spot_at l at).next 0) refl (fires s ms h (audit_of l (spot_at l at))) refl
-      where
-        go : (b : Bool) → eqb (spot_at l at).next 0 ≡ b → (c : Bool) → fires s ms h (audit_of l (spot_at l at)) ≡ c → all ≡ []
-        go true p c q = events_stop p
-        go false p true q =
-            let f : fired_from s ms h l (suc m) k at ≡ fired_at k (spot_at l at) = rw (p, q) in
-            let t : true ≡ false = sym (ap (λ (y : Fired). y.found) f) ∙ e in
-            let z : ◌≡◌ {A = ℕ} 0 1 = cc in
-            absurd (omega arith)
-        go false p false q =
-            let f : fired_from s ms h l (suc m) k at ≡ fired_from s ms h l m (k + 1) (spot_at l at).next = rw (p, q) in
-            events_on p q ∙ ih (sym (ap (λ (y : Fired). y.found) f) ∙ e)
+        pub events_other : e.audit ≡ None → From n k at ≡ From n (k + 1) e.next
+        unfolding fires
+        events_other a =
+            let p = read_some e _ is in
+            let q = made_none (spot_at l at) (ap (λ (y : Entry). y.audit) (sym p.0) ∙ a) in
+            on (rw q)
 
-    met_on : (f : Fired) → all ≡ rest → Met source m (k + 1) rest f → Met source (suc m) k all f
-    met_on f e r =
-        let a : k + 1 ≤ f.entry = r.0 in
-        let b : f.entry < k + 1 + m = r.1.0 in
-        let n : k + 1 + m - (f.entry + 1) ≡ k + suc m - (f.entry + 1) = omega arith in (
-          omega arith,
-          (
-            omega arith,
-            e ∙ r.1.1
-                ∙ ap
-                (λ (i : ℕ). event source f.entry f.mask.0 ∷ events_from s ms h source (f.entry + 1) (audits_at l i f.next))
-                n,
-          ),
-        )
+        module _ (x : AuditEntry) (a : e.audit ≡ Some x) where
+          said : audit_of l (spot_at l at) ≡ said_in l x
+          said =
+              let p = read_some e _ is in
+              let q = made_some (spot_at l at) x (ap (λ (y : Entry). y.audit) (sym p.0) ∙ a) in
+              rw (q.0, q.1)
 
-    met_here : eqb (spot_at l at).next 0 ≡ false → fires s ms h (audit_of l (spot_at l at)) ≡ true →
-        Met source (suc m) k all (fired_at k (spot_at l at))
-    met_here p q =
-        let n : m ≡ k + suc m - (k + 1) = omega arith in (
-          omega arith,
-          (
-            omega arith,
-            events_here p q
-                ∙ ap
-                (λ (i : ℕ). event source k (spot_at l at).mask.0 ∷ events_from s ms h source (k + 1) (audits_at l i (spot_at l at).next))
-                n,
-          ),
-        )
+          pub events_passed : fires s ms h (said_in l x) ≡ false → From n k at ≡ From n (k + 1) e.next
+          events_passed f = on (ap (fires s ms h) said ∙ f)
 
-    some_step :
-        ((fired_from s ms h l m (k + 1) (spot_at l at).next).found ≡ true →
-        Met source m (k + 1) rest (fired_from s ms h l m (k + 1) (spot_at l at).next)) →
-        (fired_from s ms h l (suc m) k at).found ≡ true → Met source (suc m) k all (fired_from s ms h l (suc m) k at)
-    unfolding fired_from
-    some_step ih e = go (eqb (spot_at l at).next 0) refl (fires s ms h (audit_of l (spot_at l at))) refl
-      where
-        go : (b : Bool) → eqb (spot_at l at).next 0 ≡ b → (c : Bool) → fires s ms h (audit_of l (spot_at l at)) ≡ c →
-            Met source (suc m) k all (fired_from s ms h l (suc m) k at)
-        go true p c q =
-            let f : fired_from s ms h l (suc m) k at ≡ none_fired = rw p in
-            let t : false ≡ true = sym (ap (λ (y : Fired). y.found) f) ∙ e in
-            let z : ◌≡◌ {A = ℕ} 0 1 = cc in
-            absurd (omega arith)
-        go false p true q =
-            let f : fired_from s ms h l (suc m) k at ≡ fired_at k (spot_at l at) = rw (p, q) in
-            rw f (met_here p q)
-        go false p false q =
-            let f : fired_from s ms h l (suc m) k at ≡ fired_from s ms h l m (k + 1) (spot_at l at).next = rw (p, q) in
-            rw f
-            (met_on (fired_from s ms h l m (k + 1) (spot_at l at).next) (events_on p q)
-            (ih (sym (ap (λ (y : Fired). y.found) f) ∙ e)))
+          pub events_here : fires s ms h (said_in l x) ≡ true → From n k at ≡ event source k x.mask.0 ∷ From n (k + 1) e.next
+          unfolding audits_at events_from
+          events_here f =
+              let m : n - k ≡ suc (n - (k + 1)) = omega arith in
+              let p = read_some e _ is in
+              let q = made_some (spot_at l at) x (ap (λ (y : Entry). y.audit) (sym p.0) ∙ a) in
+              rw (m, p.1, ap (fires s ms h) said ∙ f, p.0, q.1)
 
-  -- ---- the events by the walk
+-- ---- how many they are at most
 
-  -- none is left where the walk finds none
-  pub fired_none : (source m k at : ℕ) → (fired_from s ms h l m k at).found ≡ false →
-      events_from s ms h source k (audits_at l m at) ≡ []
-  unfolding audits_at events_from
-  fired_none source zero k at e = refl
-  fired_none source (suc m) k at e = none_step source m k at (fired_none source m (k + 1) (spot_at l at).next) e
+module _ (s : Sought) (ms : List Member) (h : Hits) (source : ℕ) (l : List ℕ) where
+  audits_short : (n at : ℕ) → length (audits_at l n at) ≤ n
+  unfolding audits_at
+  audits_short zero at = omega arith
+  audits_short (suc n) at = go (eqb (spot_at l at).next 0) (audits_short n (spot_at l at).next)
+    where
+      go : (b : Bool) → length (audits_at l n (spot_at l at).next) ≤ n →
+          length (cond b [] (audit_of l (spot_at l at) ∷ audits_at l n (spot_at l at).next)) ≤ suc n
+      go true k = omega arith
+      go false k = omega arith
 
-  -- else what it finds is the first, and the others are those from the place after
-  pub fired_some : (source m k at : ℕ) → (fired_from s ms h l m k at).found ≡ true →
-      Met source m k (events_from s ms h source k (audits_at l m at)) (fired_from s ms h l m k at)
-  unfolding fired_from
-  fired_some source zero k at e = let z : ◌≡◌ {A = ℕ} 0 1 = cc in absurd (omega arith)
-  fired_some source (suc m) k at e = some_step source m k at (fired_some source m (k + 1) (spot_at l at).next) e
+  from_short : (k : ℕ) (xs : List Audit) → length (events_from s ms h source k xs) ≤ length xs
+  unfolding events_from
+  from_short k [] = omega arith
+  from_short k (a ∷ xs) = go (fires s ms h a) (from_short (k + 1) xs)
+    where
+      go : (b : Bool) → length (events_from s ms h source (k + 1) xs) ≤ length xs →
+          length (cond b (event source k a.mask ∷ events_from s ms h source (k + 1) xs) (events_from s ms h source (k + 1) xs))
+          ≤ suc (length xs)
+      go true m = omega arith
+      go false m = omega arith
 
-  -- the same, of n entries in all, from what the code found
-  module _ (source n k at : ℕ) (f : Fired) (is : f ≡ fired_from s ms h l (n - k) k at) where
-    pub walk_none : f.found ≡ false → events_from s ms h source k (audits_at l (n - k) at) ≡ []
-    walk_none e = fired_none source (n - k) k at (sym (ap (λ (y : Fired). y.found) is) ∙ e)
-
-    pub walk_some : f.found ≡ true →
-        (k ≤ f.entry)
-        × ((f.entry < n)
-        × (events_from s ms h source k (audits_at l (n - k) at)
-        ≡ event source f.entry f.mask.0
-        ∷ events_from s ms h source (f.entry + 1) (audits_at l (n - (f.entry + 1)) f.next)))
-    walk_some e =
-        let r : Met source (n - k) k (events_from s ms h source k (audits_at l (n - k) at)) f =
-        rw is (fired_some source (n - k) k at (sym (ap (λ (y : Fired). y.found) is) ∙ e)) in
-        let a : k ≤ f.entry = r.0 in
-        let b : f.entry < k + (n - k) = r.1.0 in
-        let m : k + (n - k) - (f.entry + 1) ≡ n - (f.entry + 1) = omega arith in (
-          a,
-          (
-            omega arith,
-            r.1.1
-                ∙ ap
-                (λ (i : ℕ). event source f.entry f.mask.0 ∷ events_from s ms h source (f.entry + 1) (audits_at l i f.next))
-                m,
-          ),
-        )
+  pub events_short : length (events_in s ms h source l) ≤ u16_at l 4
+  unfolding audits_of
+  events_short = omega (arith, from_short 0 (audits_at l (u16_at l 4) 8), audits_short (u16_at l 4) 8)

@@ -11,7 +11,7 @@ use Rattle.masks.specs.KindsAndMasks.{entry_mask}
 use Rattle.passes.specs.Matching.{matches}
 use Rattle.passes.specs.declared.matching.Hits.{Hits}
 use Rattle.policy.specs.Rules.{Lists, there, applies_to}
-use Rattle.audit.specs.declared.entry.Spot.{Spot}
+use Rattle.audit.specs.Spot.{Spot}
 use Rattle.audit.specs.declared.firing.Sought.{Sought}
 
 -- ---- the entries of a SACL

@@ -1,55 +1,46 @@
 // An entry of a SACL, at a place of the list's own bytes.
-ghost use Rattle.std.specs.Prelude.{◌≡◌, ◌≤◌, length};
-ghost use Rattle.audit.specs.Events.{other_spot, spot_at};
+ghost use Rattle.std.specs.Prelude.{◌≡◌, length, IfSome};
+ghost use Rattle.lists.specs.Descriptor.{LiesIn};
+ghost use Rattle.audit.specs.Events.{spot_at};
+ghost use Rattle.audit.specs.Walking.{read};
 
-use lists::Rights;
+use lists::{Extent, Rights};
 
-// An entry as the code reads it: whether it is an audit entry, and then its flags, its mask as
-// stored and where its SID stands. `next` is the place after the entry, 0 where none stands.
+// What an audit entry says: its flags, its mask as stored and where its SID stands.
 #[derive(Clone, Copy)]
-pub struct Spot {
-    pub audits: bool,
+pub struct AuditEntry {
     pub flags: u8,
     pub mask: Rights,
-    pub from: usize,
-    pub to: usize,
+    pub sid: Extent,
+}
+
+// An entry of a SACL: what it says, where it is an audit entry, and the place after it.
+#[derive(Clone, Copy)]
+pub struct Entry {
+    pub audit: Option<AuditEntry>,
     pub next: usize,
 }
 
-// An entry of another type, or none.
-fn other_spot(next: usize) -> Spot
-    ensures { result ≡ other_spot next }
-{
-    Spot {
-        audits: false,
-        flags: 0,
-        mask: Rights(0),
-        from: 0,
-        to: 0,
-        next,
-    }
-}
-
 // The entry at a place.
-pub(crate) fn spot_at(l: &[u8], at: usize) -> Spot
-    ensures value { result ≡ spot_at l.now at }
-    ensures from_le_to { (result.from ≤ result.to) × (result.to ≤ length l.now) }
+pub(crate) fn entry_at(l: &[u8], at: usize) -> Option<Entry>
+    ensures value { result ≡ read (spot_at l.now at) }
+    ensures lies { IfSome result (λ e. IfSome e.audit (λ x. LiesIn (length l.now) x.sid)) }
 {
-    let e = lists::entry_end(l, at, false);
-    if e == 0 {
-        return other_spot(0);
-    }
+    let next = lists::entry_end(l, at, false)?;
     if l[at] != 2 {
-        return other_spot(e);
+        return Some(Entry { audit: None, next });
     }
-    let to = sids::sid_end(l, at + 8);
-    let mask = base::u32_at(l, at + 4);
-    Spot {
-        audits: true,
-        flags: l[at + 1],
-        mask: Rights(mask),
+    let sid = Extent {
         from: at + 8,
-        to,
-        next: e,
-    }
+        to: sids::sid_end(l, at + 8).unwrap(),
+    };
+    let audit = AuditEntry {
+        flags: l[at + 1],
+        mask: Rights(base::u32_at(l, at + 4)),
+        sid,
+    };
+    Some(Entry {
+        audit: Some(audit),
+        next,
+    })
 }

@@ -1,11 +1,13 @@
 // Whether an entry of a SACL fires: raises an event.
-ghost use Rattle.std.specs.Prelude.{◌≡◌, ◌≤◌, length};
-ghost use Rattle.passes.specs.Chains.{shown};
-ghost use Rattle.audit.specs.Events.{audit_of, flag_for, fires};
+ghost use Rattle.std.specs.Prelude.{◌≡◌, length};
+ghost use Rattle.lists.specs.Descriptor.{LiesIn};
+ghost use Rattle.passes.specs.Crowds.{shown_in};
+ghost use Rattle.audit.specs.Events.{flag_for, fires};
+ghost use Rattle.audit.specs.Walking.{said_in};
 
-use crate::entry::Spot;
+use crate::entry::AuditEntry;
 use lists::Rights;
-use passes::Hits;
+use passes::Crowd;
 
 // What an event must concern: the object kind, the explicit bits of the question, and its final
 // allowed answer.
@@ -16,6 +18,13 @@ pub struct Sought {
     pub allowed: bool,
 }
 
+// What is sought, and for whom.
+#[derive(Clone, Copy)]
+pub struct Asked<'a> {
+    pub sought: Sought,
+    pub crowd: Crowd<'a>,
+}
+
 // The flag of audit entries for an answer: success or failure.
 fn flag_for(allowed: bool) -> u8
     ensures { result ≡ flag_for allowed }
@@ -23,39 +32,21 @@ fn flag_for(allowed: bool) -> u8
     if allowed { 0x40 } else { 0x80 }
 }
 
-// Whether an entry fires: an audit entry, not for children only, with the flag for the answer, whose
-// mask covers a bit sought and whose SID matches for deny. `hits` answers for the virtual
-// identities.
-pub(crate) fn fires(
-    list: &[u8],
-    x: Spot,
-    sought: Sought,
-    listing: &[u8],
-    heads: &[u16; 512],
-    seats: &[u64],
-    hits: Hits,
-) -> bool
-    requires { (x.from ≤ x.to) × (x.to ≤ length list.now) }
-    ensures { result ≡ fires sought
-        (shown heads.now seats.now listing.now) hits
-        (audit_of list.now x) }
-{
-    if !x.audits {
-        return false;
+impl<'a> Asked<'a> {
+    // Whether an audit entry fires: not for children only, with the flag for the answer, a mask that
+    // covers a bit sought and a SID that matches for deny.
+    pub(crate) fn fires(self, list: &[u8], x: AuditEntry) -> bool
+        requires { LiesIn (length list.now) x.sid }
+        ensures { result ≡ fires self.entry.sought (shown_in self.entry.crowd)
+            self.entry.crowd.hits (said_in list.now x) }
+    {
+        if x.flags & 0x08 != 0 || x.flags & flag_for(self.sought.allowed) == 0 {
+            return false;
+        }
+        let mask = masks::entry_mask(self.sought.kind, x.mask);
+        if mask.0 & self.sought.bits.0 == 0 {
+            return false;
+        }
+        self.crowd.matches(&list[x.sid.from..x.sid.to], false)
     }
-    if x.flags & 0x08 != 0 {
-        return false;
-    }
-    if x.flags & flag_for(sought.allowed) == 0 {
-        return false;
-    }
-    let stored = x.mask;
-    let mask = masks::entry_mask(sought.kind, stored);
-    let bits = sought.bits;
-    if mask.0 & bits.0 == 0 {
-        return false;
-    }
-    let from = x.from;
-    let to = x.to;
-    passes::matches(listing, heads, seats, hits, &list[from..to], false)
 }

@@ -10,6 +10,4 @@ mod trail;
 mod walk;
 mod writing;
 
-pub use firing::Sought;
-pub use staging::stages_audit;
-pub use trail::{Trail, report};
+pub use firing::{Asked, Sought};

@@ -1,121 +1,56 @@
 // Whether staged audit differs from the effective one. Two SACLs are compared in step, without
 // storage.
 ghost use Rattle.std.specs.Prelude.{◌≡◌};
-ghost use Rattle.passes.specs.Chains.{shown};
+ghost use Rattle.passes.specs.Crowds.{shown_in};
 ghost use Rattle.policy.specs.Policy.{Placed};
 ghost use Rattle.policy.specs.ByLengths.{lists_by_lengths, rules_by_lengths};
 ghost use Rattle.audit.specs.Events.{audits_differ, rule_stages, stages_audit};
 
-use crate::firing::Sought;
-use crate::walk::next_fired;
-use passes::Hits;
-use policy::Rule;
+use crate::firing::Asked;
+use crate::walk::Events;
+use policy::{Rule, Rules};
 
-// Whether the masks of two SACLs' events differ, in order.
-fn differ(
-    one: &[u8],
-    two: &[u8],
-    sought: Sought,
-    listing: &[u8],
-    heads: &[u16; 512],
-    seats: &[u64],
-    hits: Hits,
-) -> bool
-    ensures { result ≡ audits_differ sought
-        (shown heads.now seats.now listing.now) hits
-        one.now two.now }
-{
-    let n = base::u16_at(one, 4);
-    let m = base::u16_at(two, 4);
-    let mut i: u32 = 0;
-    let mut j: u32 = 0;
-    let mut at: usize = 8;
-    let mut place: usize = 8;
-    loop {
-        let f = next_fired(one, n, i, at, sought, listing, heads, seats, hits);
-        let g = next_fired(two, m, j, place, sought, listing, heads, seats, hits);
-        if !f.found {
-            return g.found;
+impl<'a> Asked<'a> {
+    // Whether the masks of two SACLs' events differ, in order.
+    fn differ(self, one: &[u8], two: &[u8]) -> bool
+        ensures { result ≡ audits_differ self.entry.sought (shown_in self.entry.crowd)
+            self.entry.crowd.hits one.now two.now }
+    {
+        let mut others = Events::of(self, two, 0);
+        for e in Events::of(self, one, 0) {
+            let Some(f) = others.next() else {
+                return true;
+            };
+            if e.mask.0 != f.mask.0 {
+                return true;
+            }
         }
-        if !g.found {
-            return true;
-        }
-        if f.mask.0 != g.mask.0 {
-            return true;
-        }
-        i = f.entry + 1;
-        at = f.next;
-        j = g.entry + 1;
-        place = g.next;
+        others.next().is_some()
     }
-}
 
-// Whether a rule has a staged SACL, applies, and its two SACLs' events differ.
-fn rule_stages(
-    s: &[u8],
-    r: Rule,
-    sought: Sought,
-    listing: &[u8],
-    heads: &[u16; 512],
-    seats: &[u64],
-    hits: Hits,
-) -> bool
-    requires { Placed s.now r }
-    ensures { result ≡ rule_stages sought
-        (shown heads.now seats.now listing.now) hits
-        (lists_by_lengths s.now r) }
-{
-    let start = r.staged_sacl.from;
-    let end = r.staged_sacl.to;
-    if end <= start {
-        return false;
-    }
-    let first = r.applies.from;
-    let last = r.applies.to;
-    if !passes::admits(&s[first..last], listing, heads, seats, hits) {
-        return false;
-    }
-    let from = r.sacl.from;
-    let to = r.sacl.to;
-    differ(
-        &s[from..to],
-        &s[start..end],
-        sought,
-        listing,
-        heads,
-        seats,
-        hits,
-    )
-}
-
-// Whether some rule of a policy stages audit that differs, for those whom the tables of chains
-// show; `hits` are those of the same crowd.
-pub fn stages_audit(
-    s: &[u8],
-    sought: Sought,
-    listing: &[u8],
-    heads: &[u16; 512],
-    seats: &[u64],
-    hits: Hits,
-) -> bool
-    ensures { result ≡ stages_audit sought
-        (shown heads.now seats.now listing.now) hits
-        (rules_by_lengths s.now) }
-{
-    let n = base::u32_at(s, 1);
-    let mut place: usize = 5;
-    let mut k: u32 = 0;
-    while k < n {
-        let r = policy::rule_by_lengths(s, place);
-        let next = r.next;
-        if next == 0 {
+    // Whether a rule has a staged SACL, applies, and its two SACLs' events differ.
+    fn rule_stages(self, s: &[u8], r: Rule) -> bool
+        requires { Placed s.now r }
+        ensures { result ≡ rule_stages self.entry.sought (shown_in self.entry.crowd)
+            self.entry.crowd.hits (lists_by_lengths s.now r) }
+    {
+        let staged = &s[r.staged_sacl.from..r.staged_sacl.to];
+        if staged.is_empty() || !self.crowd.admits(&s[r.applies.from..r.applies.to]) {
             return false;
         }
-        if rule_stages(s, r, sought, listing, heads, seats, hits) {
-            return true;
-        }
-        place = next;
-        k += 1;
+        self.differ(&s[r.sacl.from..r.sacl.to], staged)
     }
-    false
+
+    // Whether some rule of a policy stages audit that differs.
+    pub fn stages_audit(self, s: &[u8]) -> bool
+        ensures { result ≡ stages_audit self.entry.sought (shown_in self.entry.crowd)
+            self.entry.crowd.hits (rules_by_lengths s.now) }
+    {
+        for r in Rules::of(s) {
+            if self.rule_stages(s, r) {
+                return true;
+            }
+        }
+        false
+    }
 }

@@ -1,72 +1,77 @@
-// The walk over a SACL that measuring, writing and comparing share: from one entry that fires to the
-// next.
-ghost use Rattle.std.specs.Prelude.{◌≡◌, ◌-◌};
-ghost use Rattle.passes.specs.Chains.{shown};
-ghost use Rattle.audit.specs.Walking.{none_fired, fired_from};
+// The events of a SACL, one by one: measuring, writing and comparing share this walk.
+ghost use Rattle.std.specs.Prelude.{◌≡◌, ◌<◌, length};
+ghost use Rattle.passes.specs.Crowds.{shown_in};
+ghost use Rattle.audit.specs.Events.{events_in};
 
-use crate::entry::spot_at;
-use crate::firing::{Sought, fires};
+use crate::entry::entry_at;
+use crate::firing::Asked;
 use lists::Rights;
-use passes::Hits;
 
-// An entry that fires: its number, its mask as stored, and the place after it. All 0 where none is
-// found.
+// An event: its source, its entry's number and its mask as stored.
 #[derive(Clone, Copy)]
-pub struct Fired {
-    pub found: bool,
+pub struct Event {
+    pub source: u32,
     pub entry: u32,
     pub mask: Rights,
-    pub next: usize,
 }
 
-// None fires.
-fn none_fired() -> Fired
-    ensures { result ≡ none_fired }
-{
-    Fired {
-        found: false,
-        entry: 0,
-        mask: Rights(0),
-        next: 0,
+// The events of a SACL in stored order. `entry` is the number of the next entry, which stands at
+// `place`; `count` is how many entries there are in all.
+#[derive(Clone, Copy)]
+pub struct Events<'a> {
+    asked: Asked<'a>,
+    list: &'a [u8],
+    source: u32,
+    count: u32,
+    entry: u32,
+    place: usize,
+}
+
+impl<'a> Events<'a> {
+    ghost use Rattle.audit.specs.Walking.{events_left};
+
+    pub(crate) fn of(asked: Asked<'a>, list: &'a [u8], source: u32) -> Events<'a>
+        ensures left { events_left result ≡ events_in asked.entry.sought
+            (shown_in asked.entry.crowd) asked.entry.crowd.hits source list.now }
+        ensures few { length (events_left result) < 65536 }
+    {
+        Events {
+            asked,
+            list,
+            source,
+            count: base::u16_at(list, 4),
+            entry: 0,
+            place: 8,
+        }
     }
 }
 
-// The first that fires of the entries from number `first` on, which stands at `from`; `n` is how
-// many entries there are in all.
-pub(crate) fn next_fired(
-    list: &[u8],
-    n: u32,
-    first: u32,
-    from: usize,
-    sought: Sought,
-    listing: &[u8],
-    heads: &[u16; 512],
-    seats: &[u64],
-    hits: Hits,
-) -> Fired
-    ensures { result ≡ fired_from sought
-        (shown heads.now seats.now listing.now) hits
-        list.now (n - first) first from }
-{
-    let mut k = first;
-    let mut at = from;
-    while k < n {
-        let x = spot_at(list, at);
-        let next = x.next;
-        if next == 0 {
-            return none_fired();
+impl<'a> Iterator for Events<'a> {
+    ghost use Rattle.std.specs.Iterator.{item_count};
+    ghost use Rattle.audit.specs.Walking.{events_left, GivesEvent};
+
+    type Item = Event;
+
+    ghost next_gives = { GivesEvent };
+
+    ghost remaining = { item_count events_left };
+
+    fn next(&mut self) -> Option<Event> {
+        while self.entry < self.count {
+            let read = entry_at(self.list, self.place)?;
+            let entry = self.entry;
+            self.entry += 1;
+            self.place = read.next;
+            if let Some(x) = read.audit {
+                if self.asked.fires(self.list, x) {
+                    return Some(Event {
+                        source: self.source,
+                        entry,
+                        mask: x.mask,
+                    });
+                }
+            }
         }
-        if fires(list, x, sought, listing, heads, seats, hits) {
-            let mask = x.mask;
-            return Fired {
-                found: true,
-                entry: k,
-                mask,
-                next,
-            };
-        }
-        at = next;
-        k += 1;
+        None
     }
-    none_fired()
 }

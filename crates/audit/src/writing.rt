@@ -1,11 +1,13 @@
 // Bytes of a trail, measured or written by the same steps: `write` tells which.
+// kept: buffer, place and `write` stand side by side, since a struct that holds a buffer must say in
+// each contract, beside all that stands there now, that it still holds the same one.
 ghost use Rattle.std.specs.Prelude.{◌≡◌, true, cond, ◌+◌, ◌≤◌, ◌<◌, ◌^◌, length, set};
 ghost use Rattle.base.specs.Sevens.{packed};
-ghost use Rattle.audit.specs.Events.{event};
 ghost use Rattle.audit.specs.Trail.{event_bytes};
 ghost use Rattle.audit.specs.Noting.{Noted, Room};
+ghost use Rattle.audit.specs.Walking.{event_of};
 
-use lists::Rights;
+use crate::walk::Event;
 
 // A byte at a place, where it is written.
 fn store(out: &mut [u8], i: usize, b: u8, write: bool)
@@ -24,6 +26,7 @@ fn put(out: &mut [u8], o: usize, v: u64, write: bool) -> usize
 {
     let mut n = v;
     let mut i = o;
+    // kept: the number that is left says when to stop, and no range counts that.
     while 128 <= n {
         store(out, i, (128 + n % 128) as u8, write);
         n = n / 128;
@@ -34,21 +37,12 @@ fn put(out: &mut [u8], o: usize, v: u64, write: bool) -> usize
 }
 
 // An event at place `o`: its source, its entry's number and its mask.
-pub(crate) fn put_event(
-    out: &mut [u8],
-    o: usize,
-    source: u32,
-    entry: u32,
-    mask: Rights,
-    write: bool,
-) -> usize
-    requires { (o + 30 < 2 ^ 64)
-        × Room write out.old o (event_bytes (event source entry mask.0)) }
-    ensures noted { Noted write out.old out.new o result
-        (event_bytes (event source entry mask.0)) }
+pub(crate) fn put_event(out: &mut [u8], o: usize, e: Event, write: bool) -> usize
+    requires { (o + 30 < 2 ^ 64) × Room write out.old o (event_bytes (event_of e)) }
+    ensures noted { Noted write out.old out.new o result (event_bytes (event_of e)) }
     ensures upper_bound { result ≤ o + 30 }
 {
-    let a = put(out, o, source as u64, write);
-    let b = put(out, a, entry as u64, write);
-    put(out, b, mask.0 as u64, write)
+    let a = put(out, o, e.source as u64, write);
+    let b = put(out, a, e.entry as u64, write);
+    put(out, b, e.mask.0 as u64, write)
 }

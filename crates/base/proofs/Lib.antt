@@ -27,3 +27,5 @@ pub mod SevensSteps
 pub mod LongerLaws
 -- a number in sevens, written and read back
 pub mod SevensLaws
+-- a place as the code answers it
+pub mod FoundLaws

@@ -1,7 +1,7 @@
 -- A number of more than one byte, group by group: for the loop of `longer`. Over every width up to 64 bits.
 -- In order: groups side by side (beside_lt shifted beside_fits within_lt group_lt), groups above groups (above_above); what the groups
 -- read so far have to do with the number (Among), from the first on (among_first among_next) to each end (among_cut among_wide
--- among_last); a number of five groups at once (five_groups); and what a number of more than one byte is at least (longer_found).
+-- among_last last_wide last_zero last_some); a number of five groups at once (five_groups); and what a number of more than one byte is at least (longer_found).
 -- Assumes nothing.
 use Prim.Native.Nat.{ℕ, suc, ◌+◌, ◌-◌, ◌*◌, ◌%◌, ◌^◌, ◌<◌, ◌≤◌}
 use mathlib.Core.Path.{◌≡◌, refl, sym, ap, ap₂, ◌∙◌}
@@ -10,17 +10,18 @@ use mathlib.Core.Bool.{Bool, true, false, cond}
 use native.Mathlib.Nat.{add-mul, mul_assoc, mul_comm}
 use native.Mathlib.Omega.{arith}
 use lib.Arith.{digits_lt}
-use lib.Pow.{pow-add, pow_mono, pow_pos, shl_exact}
+use lib.Pow.{pow-add, pow_mono, shl_exact}
 use lib.Dec.{ltb, eqb}
 use lib.ListN.{length, get_or, drop}
 use lib.Seq.{drop-cons}
 use borrow.Author.Tests.{le-ltb, ltb-true, eqb-false}
+use Rattle.std.specs.Prelude.{None, Some}
 use Rattle.base.specs.Bytes.{Read}
 use Rattle.base.specs.Bytes.Read.{none, some}
 use Rattle.base.specs.Sevens.{more, groups, within, number, num_of}
 use Rattle.base.specs.declared.sevens.Num.{Num}
-use Rattle.base.proofs.SevensSteps.{within_fits, above, above_some, number_out, number_last, number_long, number_carry}
-use Rattle.base.proofs.SevensSteps.{groups_bounds, number_found}
+use Rattle.base.proofs.SevensSteps.{within_fits, above, above_zero, above_some, number_out, number_last, number_long, number_carry}
+use Rattle.base.proofs.SevensSteps.{groups_bounds, number_found, num_none, num_some}
 
 -- ---- groups side by side
 
@@ -46,42 +47,40 @@ module _ (bits k w : ℕ) (narrow : bits ≤ 64) (room : k < bits) (high : w < 2
       rw shifted (omega arith)
 
 -- a last group as the code answers it, and one that is not the last
-pub within_lt : (bits v n : ℕ) (r : Num) → r ≡ num_of (within bits (some v n)) → r.value < 2 ^ bits
+pub within_lt : (bits v n : ℕ) (r : Num) → Some r ≡ num_of (within bits (some v n)) → r.value < 2 ^ bits
 unfolding num_of within
-within_lt bits v n r is = rw is (go (ltb v (2 ^ bits)) refl)
+within_lt bits v n r is = go (ltb v (2 ^ bits)) refl is
   where
-    go : (t : Bool) → ltb v (2 ^ bits) ≡ t → (num_of (cond t (some v n) none)).value < 2 ^ bits
-    go true e = ltb-true v (2 ^ bits) e
-    go false e = pow_pos bits
+    go : (t : Bool) → ltb v (2 ^ bits) ≡ t → Some r ≡ num_of (cond t (some v n) none) → r.value < 2 ^ bits
+    go true e q = let i : r.value ≡ v = cc in omega (arith, ltb-true v (2 ^ bits) e)
+    go false e q = cc
 
 pub group_lt : (bits b : ℕ) → b < 256 → 7 < bits → b - 128 < 2 ^ bits
 group_lt bits b h k = let m : 2 ^ 7 ≤ 2 ^ bits = pow_mono {i = 7} {j = bits} (omega arith) in omega arith
 
 -- ---- groups above groups
 
-above_above : (v k g : ℕ) (r : Num) → above v k (above g 7 r) ≡ above (v + g * 2 ^ k) (k + 7) r
-unfolding num_of
-above_above v k g r = go (eqb r.value 0) refl
+above_above : (v k g : ℕ) (r : Read ℕ) → above v k (above g 7 r) ≡ above (v + g * 2 ^ k) (k + 7) r
+above_above v k g none = refl
+above_above v k g (some w n) = go (eqb w 0) refl
   where
-    go : (t : Bool) → eqb r.value 0 ≡ t →
-        above v k (cond t (num_of none) (record { ok = true; value = g + r.value * 2 ^ 7; next = r.next })) ≡
-        cond t (num_of none) (record { ok = true; value = v + g * 2 ^ k + r.value * 2 ^ (k + 7); next = r.next })
+    go : (t : Bool) → eqb w 0 ≡ t →
+        above v k (cond t none (some (g + w * 2 ^ 7) n)) ≡ cond t none (some (v + g * 2 ^ k + w * 2 ^ (k + 7)) n)
     go true e = refl
     go false e =
-        let q : (r.value ≡ 0 → ⊥) = eqb-false r.value 0 e in
-        let m : r.value * 2 ^ 7 * 2 ^ k ≡ r.value * 2 ^ (k + 7) =
-        mul_assoc r.value (2 ^ 7) (2 ^ k) ∙ ap (λ (x : ℕ). r.value * x) (mul_comm (2 ^ 7) (2 ^ k) ∙ sym (pow-add 2 k 7)) in
-        let d : (g + r.value * 2 ^ 7) * 2 ^ k ≡ g * 2 ^ k + r.value * 2 ^ 7 * 2 ^ k = add-mul g (r.value * 2 ^ 7) (2 ^ k) in
-        let e : v + (g + r.value * 2 ^ 7) * 2 ^ k ≡ v + g * 2 ^ k + r.value * 2 ^ (k + 7) = omega arith in
-        above_some v k (record { ok = true; value = g + r.value * 2 ^ 7; next = r.next }) (λ z. q (omega arith)) ∙
-        ap (λ (x : ℕ). record { ok = true; value = x; next = r.next }) e
+        let q : (w ≡ 0 → ⊥) = eqb-false w 0 e in
+        let m : w * 2 ^ 7 * 2 ^ k ≡ w * 2 ^ (k + 7) =
+        mul_assoc w (2 ^ 7) (2 ^ k) ∙ ap (λ (x : ℕ). w * x) (mul_comm (2 ^ 7) (2 ^ k) ∙ sym (pow-add 2 k 7)) in
+        let d : (g + w * 2 ^ 7) * 2 ^ k ≡ g * 2 ^ k + w * 2 ^ 7 * 2 ^ k = add-mul g (w * 2 ^ 7) (2 ^ k) in
+        let e : v + (g + w * 2 ^ 7) * 2 ^ k ≡ v + g * 2 ^ k + w * 2 ^ (k + 7) = omega arith in
+        above_some v k (g + w * 2 ^ 7) n (λ z. q (omega arith)) ∙ ap (λ (x : ℕ). some x n) e
 
 -- ---- from group to group
 
 -- the groups of the number at a place that were read, k bits of them with the value v; the rest of it stands at p
 pub record Among (bits : ℕ) (s : List ℕ) (at v k p : ℕ) : Type 0 where
   pub low : v < 2 ^ k
-  pub told : num_of (number bits s at) ≡ above v k (num_of (number (bits - k) s p))
+  pub told : number bits s at ≡ above v k (number (bits - k) s p)
 
 pub among_first : (bits : ℕ) (s : List ℕ) (at b : ℕ) → b ≡ get_or s at 0 → at < length s → 128 ≤ b → b < 256 → 7 < bits →
     Among bits s at (b - 128) 7 (at + 1)
@@ -89,28 +88,41 @@ among_first bits s at b is inside h h' k =
     rw is (record { low = omega arith; told = number_carry bits s at inside (omega arith) (omega arith) k })
 
 module _ (bits : ℕ) (s : List ℕ) (at v k p : ℕ) (among : Among bits s at v k p) where
-  pub among_cut : length s ≤ p → num_of none ≡ num_of (number bits s at)
-  unfolding num_of
-  among_cut h = sym (among.told ∙ ap (λ r. above v k (num_of r)) (number_out (bits - k) s p h))
+  pub among_cut : length s ≤ p → number bits s at ≡ none
+  among_cut h = among.told ∙ ap (above v k) (number_out (bits - k) s p h)
 
   module _ (b : ℕ) (is : b ≡ get_or s p 0) (inside : p < length s) where
-    pub among_wide : 128 ≤ b → bits - k ≤ 7 → num_of none ≡ num_of (number bits s at)
-    unfolding num_of
-    among_wide h l = sym (among.told ∙ ap (λ r. above v k (num_of r)) (number_long (bits - k) s p inside (omega arith) l))
+    pub among_wide : 128 ≤ b → bits - k ≤ 7 → number bits s at ≡ none
+    among_wide h l = among.told ∙ ap (above v k) (number_long (bits - k) s p inside (omega arith) l)
 
-    -- r is the answer for the last group
-    pub among_last : b < 128 → (r : Num) → r ≡ num_of (within (bits - k) (some b (p + 1))) → above v k r ≡ num_of (number bits s at)
-    among_last h r e =
+    pub among_last : b < 128 → number bits s at ≡ above v k (within (bits - k) (some b (p + 1)))
+    among_last h =
         let n : number (bits - k) s p ≡ within (bits - k) (some (get_or s p 0) (p + 1)) = number_last (bits - k) s p inside (omega arith) in
-        ap (above v k) (e ∙ ap (λ (x : ℕ). num_of (within (bits - k) (some x (p + 1)))) is ∙ sym (ap num_of n)) ∙ sym among.told
+        among.told ∙ ap (above v k) (n ∙ ap (λ (x : ℕ). within (bits - k) (some x (p + 1))) (sym is))
+
+    -- the same as the code answers it: where the last group is too wide, where it is 0, and else
+    pub last_wide : b < 128 → None ≡ num_of (within (bits - k) (some b (p + 1))) → None ≡ num_of (number bits s at)
+    unfolding num_of
+    last_wide h e = sym (ap num_of (among_last h ∙ ap (above v k) (num_none (within (bits - k) (some b (p + 1))) e)))
+
+    pub last_zero : b < 128 → (r : Num) → Some r ≡ num_of (within (bits - k) (some b (p + 1))) → r.value ≡ 0 → None ≡ num_of (number bits s at)
+    unfolding num_of
+    last_zero h r e z =
+        sym (ap num_of (among_last h ∙ ap (above v k) (num_some (within (bits - k) (some b (p + 1))) r e) ∙ above_zero v k r.value r.next z))
+
+    pub last_some : b < 128 → (r : Num) → Some r ≡ num_of (within (bits - k) (some b (p + 1))) → (r.value ≡ 0 → ⊥) →
+        Some (record { value = v + r.value * 2 ^ k; next = r.next }) ≡ num_of (number bits s at)
+    unfolding num_of
+    last_some h r e z =
+        sym (ap num_of (among_last h ∙ ap (above v k) (num_some (within (bits - k) (some b (p + 1))) r e) ∙ above_some v k r.value r.next z))
 
     pub among_next : 128 ≤ b → b < 256 → 7 < bits - k → Among bits s at (v + (b - 128) * 2 ^ k) (k + 7) (p + 1)
     among_next h h' l =
         let e : bits - k - 7 ≡ bits - (k + 7) = omega arith in
-        let c : num_of (number (bits - k) s p) ≡ above (b - 128) 7 (num_of (number (bits - k - 7) s (p + 1))) =
+        let c : number (bits - k) s p ≡ above (b - 128) 7 (number (bits - k - 7) s (p + 1)) =
         rw is (number_carry (bits - k) s p inside (omega arith) (omega arith) l) in
-        let a = above_above v k (b - 128) (num_of (number (bits - k - 7) s (p + 1))) in
-        let f = ap (λ (n : ℕ). above (v + (b - 128) * 2 ^ k) (k + 7) (num_of (number n s (p + 1)))) e in
+        let a = above_above v k (b - 128) (number (bits - k - 7) s (p + 1)) in
+        let f = ap (λ (n : ℕ). above (v + (b - 128) * 2 ^ k) (k + 7) (number n s (p + 1))) e in
         record { low = beside_lt v (b - 128) k 7 among.low (omega arith); told = among.told ∙ ap (above v k) c ∙ a ∙ f }
 
 -- ---- five groups at once
@@ -141,15 +153,12 @@ module _ (s : List ℕ) (at : ℕ) (inside : at + 5 ≤ length s) (a b c d e : �
 
     pub five_groups : (e ≡ 0 → ⊥) → e ≤ 15 → (v : ℕ) →
         v ≡ a - 128 + 128 * (b - 128) + 16384 * (c - 128) + 2097152 * (d - 128) + 268435456 * e →
-        num_of (number 32 s at) ≡ num_of (some v (at + 5))
-    unfolding num_of
+        number 32 s at ≡ some v (at + 5)
     five_groups nonzero few v is =
-        let r : Num = record { ok = true; value = e; next = at + 1 + 1 + 1 + 1 + 1 } in
         let last = among_last 32 s at lower (7 + 7 + 7 + 7) (at + 1 + 1 + 1 + 1) four e (ise ∙ ap (λ (p : ℕ). get_or s p 0) (sym fourth))
-        (omega arith) (omega arith) r
-        (sym (within_fits 4 e (at + 1 + 1 + 1 + 1 + 1) (omega arith))) in
-        sym last ∙ above_some lower (7 + 7 + 7 + 7) r nonzero
-        ∙ ap₂ (λ (x n : ℕ). record { ok = true; value = x; next = n }) (omega arith) (omega arith)
+        (omega arith) (omega arith) in
+        last ∙ ap (above lower (7 + 7 + 7 + 7)) (within_fits 4 e (at + 1 + 1 + 1 + 1 + 1) (omega arith)) ∙
+        above_some lower (7 + 7 + 7 + 7) e (at + 1 + 1 + 1 + 1 + 1) nonzero ∙ ap₂ some (omega arith) (omega arith)
 
 -- ---- what was found
 

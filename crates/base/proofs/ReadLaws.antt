@@ -1,13 +1,11 @@
 -- Taking a reading apart. In order: two readings that went through (bound), a test that let one through (allowed, passed), equal readings
--- (moved), a number as the code answers it (num_none, num_some). Assumes nothing.
+-- (moved). Assumes nothing.
 use Prim.Native.Nat.{ℕ}
-use mathlib.Core.Path.{◌≡◌, refl, sym, ap, ◌∙◌}
+use mathlib.Core.Path.{◌≡◌, refl}
 use mathlib.Core.Bool.{Bool, true, false, cond}
 use native.Mathlib.Omega.{arith}
 use Rattle.base.specs.Bytes.{Read, bind, only}
 use Rattle.base.specs.Bytes.Read.{none, some}
-use Rattle.base.specs.Sevens.{num_of}
-use Rattle.base.specs.declared.sevens.Num.{Num}
 
 -- the two steps of a reading that went through
 pub record Bound {A B : Type 0} (r : Read A) (k : A → ℕ → Read B) (b : B) (n : ℕ) : Type 0 where
@@ -35,15 +33,3 @@ moved P {a} {b} {m} {n} e h =
     let p : a ≡ b = cc in
     let q : m ≡ n = cc in
     rw (← p, ← q) h
-
--- ---- a number as the code answers it
-
-pub num_none : (q : Read ℕ) (r : Num) → r ≡ num_of q → r.ok ≡ false → q ≡ none
-unfolding num_of
-num_none none r e h = refl
-num_none (some v n) r e h = let z : true ≡ false = sym (ap (λ (x : Num). x.ok) e) ∙ h in cc
-
-pub num_some : (q : Read ℕ) (r : Num) → r ≡ num_of q → r.ok ≡ true → q ≡ some r.value r.next
-unfolding num_of
-num_some none r e h = let z : false ≡ true = sym (ap (λ (x : Num). x.ok) e) ∙ h in cc
-num_some (some v n) r e h = cc

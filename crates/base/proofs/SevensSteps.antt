@@ -1,8 +1,8 @@
 -- What the number at a place is, by the byte that stands there. Over every width; for `number_at`, for the loop of `longer` (LongerLaws),
 -- and for what is written and read back (SevensLaws).
 -- In order: within the width (within_fits within_wide), a group below what follows (long_more carry_more), the number at a place by its
--- first byte (above above_none above_some number_out number_last number_alone number_long number_carry), what a number that was found says
--- (number_found), and the bounds of a reading as the code answers it (num_bounds num_answer).
+-- first byte (above above_zero above_some number_out number_last number_alone number_long number_carry), what a number that was found says
+-- (number_found), and a reading as the code answers it, with its bounds (num_none num_some num_bounds num_answer).
 -- Assumes nothing.
 use Prim.Native.Nat.{ℕ, suc, ◌+◌, ◌-◌, ◌*◌, ◌^◌, ◌<◌, ◌≤◌}
 use mathlib.Core.Path.{◌≡◌, refl, sym, ap, ap₂, ◌∙◌}
@@ -10,23 +10,24 @@ use mathlib.Core.List.{List, [], ◌∷◌}
 use mathlib.Core.Bool.{Bool, true, false, cond}
 use native.Mathlib.Numerals.{add-one}
 use native.Mathlib.Omega.{arith}
-use lib.Pow.{pow_mono, pow-add, pow_pos}
+use lib.Pow.{pow_mono, pow-add}
 use lib.Dec.{ltb, eqb}
 use lib.ListN.{length, get_or, drop, length-drop, drop_of_length-le}
 use lib.Seq.{drop-cons}
 use borrow.Author.Tests.{lt-ltb, le-ltb, eq-eqb, ne_eqb, ltb-true, ltb-false, eqb-false}
+use Rattle.std.specs.Prelude.{Option, None, Some, IfSome}
 use Rattle.base.specs.Bytes.{Read}
 use Rattle.base.specs.Bytes.Read.{none, some}
 use Rattle.base.specs.Sevens.{more, groups, within, placed, number, num_of}
 use Rattle.base.specs.declared.sevens.Num.{Num}
 
--- ---- within the width, as the code answers it
+-- ---- within the width
 
-pub within_fits : (bits v n : ℕ) → v < 2 ^ bits → num_of (within bits (some v n)) ≡ record { ok = true; value = v; next = n }
-unfolding num_of within
+pub within_fits : (bits v n : ℕ) → v < 2 ^ bits → within bits (some v n) ≡ some v n
+unfolding within
 within_fits bits v n h = rw (lt-ltb v (2 ^ bits) h)
 
-pub within_wide : (bits v n : ℕ) → 2 ^ bits ≤ v → num_of (within bits (some v n)) ≡ num_of none
+pub within_wide : (bits v n : ℕ) → 2 ^ bits ≤ v → within bits (some v n) ≡ none
 unfolding within
 within_wide bits v n h = rw (le-ltb v (2 ^ bits) h)
 
@@ -69,25 +70,25 @@ carry_more bits g (some v n) h k = go (eqb v 0) refl (ltb v (2 ^ (bits - 7))) re
 
 -- ---- the number at a place, by its first byte
 
--- what the code makes of groups of k bits and the answer for what follows
-abbrev pub above : ℕ → ℕ → Num → Num
-above v k r = cond (eqb r.value 0) (num_of none) (record { ok = true; value = v + r.value * 2 ^ k; next = r.next })
+-- groups of k bits with the value v, below what follows, which may not be 0
+abbrev pub above : ℕ → ℕ → Read ℕ → Read ℕ
+above v k none = none
+above v k (some w n) = cond (eqb w 0) none (some (v + w * 2 ^ k) n)
 
-pub above_none : (v k : ℕ) (r : Num) → r.value ≡ 0 → above v k r ≡ num_of none
-above_none v k r h = rw (eq-eqb r.value 0 h)
+pub above_zero : (v k w n : ℕ) → w ≡ 0 → above v k (some w n) ≡ none
+above_zero v k w n h = rw (eq-eqb w 0 h)
 
-pub above_some : (v k : ℕ) (r : Num) → (r.value ≡ 0 → ⊥) → above v k r ≡ record { ok = true; value = v + r.value * 2 ^ k; next = r.next }
-above_some v k r h = rw (ne_eqb r.value 0 h)
+pub above_some : (v k w n : ℕ) → (w ≡ 0 → ⊥) → above v k (some w n) ≡ some (v + w * 2 ^ k) n
+above_some v k w n h = rw (ne_eqb w 0 h)
 
-placed_more : (at g : ℕ) (r : Read ℕ) → num_of (placed at (more g r)) ≡ above g 7 (num_of (placed (at + 1) r))
-unfolding num_of placed more
+placed_more : (at g : ℕ) (r : Read ℕ) → placed at (more g r) ≡ above g 7 (placed (at + 1) r)
+unfolding placed more
 placed_more at g none = refl
 placed_more at g (some v n) = go (eqb v 0)
   where
-    go : (t : Bool) → num_of (placed at (cond t none (some (g + 128 * v) (n + 1)))) ≡
-        cond t (num_of none) (record { ok = true; value = g + v * 2 ^ 7; next = at + 1 + n })
+    go : (t : Bool) → placed at (cond t none (some (g + 128 * v) (n + 1))) ≡ cond t none (some (g + v * 2 ^ 7) (at + 1 + n))
     go true = refl
-    go false = ap₂ (λ (x y : ℕ). num_of (some x y)) (omega arith) (omega arith)
+    go false = ap₂ some (omega arith) (omega arith)
 
 placed_within : (bits at v n : ℕ) → placed at (within bits (some v n)) ≡ within bits (some v (at + n))
 unfolding placed within
@@ -119,7 +120,7 @@ module _ (bits : ℕ) (s : List ℕ) (at : ℕ) (inside : at < length s) where
       rw (drop-cons s at 0, le-ltb (get_or s at 0) 128 h, long_more bits (get_or s at 0 - 128) (groups (drop (suc at) s)) k)
 
   pub number_carry : 128 ≤ get_or s at 0 → get_or s at 0 < 256 → 7 < bits →
-      num_of (number bits s at) ≡ above (get_or s at 0 - 128) 7 (num_of (number (bits - 7) s (at + 1)))
+      number bits s at ≡ above (get_or s at 0 - 128) 7 (number (bits - 7) s (at + 1))
   unfolding number groups
   number_carry h h' k =
       let e : drop at s ≡ get_or s at 0 ∷ drop (at + 1) s = rw (add-one, drop-cons s at 0) in
@@ -173,16 +174,27 @@ number_found bits s at v n e = go (groups (drop at s)) refl e
             record { fits = omega (arith, o); past = omega arith; inside = omega arith; told = f }
         by false u e'' = let z : ◌≡◌ {A = ℕ} 0 1 = cc in absurd (omega arith)
 
--- the bounds of a reading as the code answers it, where there is none too
-pub num_bounds : (bits : ℕ) (s : List ℕ) (at : ℕ) (r : Num) → r ≡ num_of (number bits s at) → (r.value < 2 ^ bits) × (r.next ≤ length s)
+-- ---- a number as the code answers it
+
+pub num_none : (q : Read ℕ) → None ≡ num_of q → q ≡ none
 unfolding num_of
-num_bounds bits s at r e = rw e (go (number bits s at) refl)
-  where
-    go : (x : Read ℕ) → number bits s at ≡ x → ((num_of x).value < 2 ^ bits) × ((num_of x).next ≤ length s)
-    go none q = (pow_pos bits, omega arith)
-    go (some v n) q = let f = number_found bits s at v n q in (f.fits, f.inside)
+num_none none e = refl
+num_none (some v n) e = cc
+
+pub num_some : (q : Read ℕ) (r : Num) → Some r ≡ num_of q → q ≡ some r.value r.next
+unfolding num_of
+num_some none r e = cc
+num_some (some v n) r e = cc
+
+-- the bounds of a number as the code answers it
+pub num_bounds : (bits : ℕ) (s : List ℕ) (at : ℕ) (r : Num) → Some r ≡ num_of (number bits s at) → (r.value < 2 ^ bits) × (r.next ≤ length s)
+num_bounds bits s at r e = let f = number_found bits s at r.value r.next (num_some (number bits s at) r e) in (f.fits, f.inside)
 
 -- the whole of what `number_at` promises, from its first clause
-pub num_answer : (bits : ℕ) (s : List ℕ) (at : ℕ) (r : Num) → r ≡ num_of (number bits s at) →
-    (r ≡ num_of (number bits s at)) × ((r.value < 2 ^ bits) × (r.next ≤ length s))
-num_answer bits s at r e = (e, num_bounds bits s at r e)
+pub num_answer : (bits : ℕ) (s : List ℕ) (at : ℕ) (r : Option Num) → r ≡ num_of (number bits s at) →
+    (r ≡ num_of (number bits s at)) × IfSome r (λ n. (n.value < 2 ^ bits) × (n.next ≤ length s))
+num_answer bits s at r e = (e, go r e)
+  where
+    go : (x : Option Num) → x ≡ num_of (number bits s at) → IfSome x (λ n. (n.value < 2 ^ bits) × (n.next ≤ length s))
+    go None q = tt
+    go (Some n) q = num_bounds bits s at n q

@@ -1,5 +1,5 @@
 -- Bytes by place. A list of bytes is read from any place; what is not wholly there reads as 0, and every definition that cares asks first.
-use Rattle.std.specs.Prelude.{ℕ, zero, suc, ◌+◌, ◌-◌, ◌*◌, ◌/◌, ◌%◌, List, [], ◌∷◌, ◌++◌, Bool, true, false, cond, length, get_or, take, drop, leb, eqb}
+use Rattle.std.specs.Prelude.{ℕ, zero, suc, ◌+◌, ◌-◌, ◌*◌, ◌/◌, ◌%◌, List, [], ◌∷◌, ◌++◌, Bool, true, false, cond, length, get_or, take, drop, leb, eqb, Option, None, Some}
 
 abbrev pub byte_at : List ℕ → ℕ → ℕ
 byte_at s at = get_or s at 0
@@ -60,3 +60,7 @@ bind (some a at) k = k a at
 abbrev pub only : {A : Type 0} → Bool → Read A → Read A
 only true r = r
 only false r = none
+
+-- a place as the code answers it, where 0 says that there is none
+unfoldable pub found : ℕ → Option ℕ
+found n = cond (eqb n 0) None (Some n)

@@ -1,5 +1,5 @@
 -- "Numbers are groups of seven bits, lowest first, top bit set on all but the last; shortest form only, within the field's width."
-use Rattle.std.specs.Prelude.{ℕ, zero, suc, ◌+◌, ◌-◌, ◌*◌, ◌^◌, ◌/◌, ◌%◌, List, [], ◌∷◌, true, false, cond, drop, ltb, eqb}
+use Rattle.std.specs.Prelude.{ℕ, zero, suc, ◌+◌, ◌-◌, ◌*◌, ◌^◌, ◌/◌, ◌%◌, List, [], ◌∷◌, cond, drop, ltb, eqb, Option, None, Some}
 use Rattle.base.specs.Bytes.{Read}
 use Rattle.base.specs.Bytes.Read.{none, some}
 use Rattle.base.specs.declared.sevens.Num.{Num}
@@ -28,10 +28,10 @@ placed at (some v n) = some v (at + n)
 unfoldable pub number : ℕ → List ℕ → ℕ → Read ℕ
 number bits s at = placed at (within bits (groups (drop at s)))
 
--- a reading as the code answers it: 0 and 0 where there is none
-unfoldable pub num_of : Read ℕ → Num
-num_of none = record { ok = false; value = 0; next = 0 }
-num_of (some v n) = record { ok = true; value = v; next = n }
+-- a reading as the code answers it
+unfoldable pub num_of : Read ℕ → Option Num
+num_of none = None
+num_of (some v n) = Some (record { value = v; next = n })
 
 -- a number below 128 ^ (k + 1) in sevens
 unfoldable pub sevens : ℕ → ℕ → List ℕ

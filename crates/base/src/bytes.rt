@@ -1,66 +1,54 @@
 // Numbers of two, four and eight bytes, lowest first, and equality of bytes. Each is total: what is
 // not wholly there reads as 0.
+// kept: 0 and no Option, since `u16_at`, `u32_at` and `u64_at` of specs say 0, and every law of lists
+// and tokens stands on these; and three functions, since each of the three has its own definition.
 ghost use Rattle.std.specs.Prelude.{◌≡◌, ◌<◌, ◌^◌, length};
 ghost use Rattle.base.specs.Bytes.{u16_at, u32_at, u64_at, same};
-
-// A byte as a wider number, with its bound.
-pub fn wide(x: u8) -> u32
-    ensures { (result ≡ x) × (result < 256) }
-{
-    x as u32
-}
 
 // The number in the two bytes at a place, or 0 where they are not both there.
 pub fn u16_at(s: &[u8], at: usize) -> u32
     ensures value { result ≡ u16_at s.now at }
     ensures upper_bound { result < 65536 }
 {
-    if s.len() < 2 {
+    if s.len() < 2 || s.len() - 2 < at {
         return 0;
     }
-    if s.len() - 2 < at {
-        return 0;
-    }
-    wide(s[at]) + 256 * wide(s[at + 1])
+    u32::from(s[at]) + 256 * u32::from(s[at + 1])
 }
 
 // The number in the four bytes at a place, or 0 where they are not all there.
 pub fn u32_at(s: &[u8], at: usize) -> u32
     ensures { result ≡ u32_at s.now at }
 {
-    if s.len() < 4 {
+    if s.len() < 4 || s.len() - 4 < at {
         return 0;
     }
-    if s.len() - 4 < at {
-        return 0;
-    }
-    wide(s[at]) + 256 * wide(s[at + 1]) + 65536 * wide(s[at + 2]) + 16777216 * wide(s[at + 3])
+    u32::from(s[at])
+        + 256 * u32::from(s[at + 1])
+        + 65536 * u32::from(s[at + 2])
+        + 16777216 * u32::from(s[at + 3])
 }
 
 // The number in the eight bytes at a place, or 0 where they are not all there.
 pub fn u64_at(s: &[u8], at: usize) -> u64
     ensures { result ≡ u64_at s.now at }
 {
-    if s.len() < 8 {
+    if s.len() < 8 || s.len() - 8 < at {
         return 0;
     }
-    if s.len() - 8 < at {
-        return 0;
-    }
-    (u32_at(s, at) as u64) + 4294967296 * (u32_at(s, at + 4) as u64)
+    u64::from(u32_at(s, at)) + 4294967296 * u64::from(u32_at(s, at + 4))
 }
 
 // Whether two lists of one length are equal, byte by byte.
+// kept: a loop and no `==` on slices, since the edit `same_other_bytes_skipped` is one of its step.
 fn alike(a: &[u8], b: &[u8]) -> bool
     requires { length a.now ≡ length b.now }
     ensures { result ≡ same a.now b.now }
 {
-    let mut i: usize = 0;
-    while i < a.len() {
+    for i in 0..a.len() {
         if a[i] != b[i] {
             return false;
         }
-        i += 1;
     }
     true
 }
@@ -80,12 +68,10 @@ pub fn same(a: &[u8], b: &[u8]) -> bool
     if u64_at(a, k) != u64_at(b, k) {
         return false;
     }
-    let mut i: usize = 0;
-    while i < k {
+    for i in (0..k).step_by(8) {
         if u64_at(a, i) != u64_at(b, i) {
             return false;
         }
-        i += 8;
     }
     true
 }

@@ -11,8 +11,8 @@ use Rattle.conditions.specs.Condition.{enclosed_end, literal_end, literals_at, l
 use Rattle.conditions.specs.Condition.{negated}
 use Rattle.conditions.specs.Condition.{step_at, ended, run_from, outcome_by, shape}
 use Rattle.conditions.specs.Membership.{sids_at, sids_of, all_of, any_of, reply, told_of, outcome}
-use Rattle.conditions.specs.declared.scan.Scan.TheVariants.{Broken, Foreign, Plain}
-use Rattle.conditions.specs.declared.condition.Outcome.TheVariants as out
+use Rattle.conditions.specs.Scanning.Scan.{Broken, Foreign, Plain}
+use Rattle.conditions.specs.Scanning.{Outcome as out}
 
 -- S-1-5-7 and S-1-5-9; a literal
 seven : List ℕ

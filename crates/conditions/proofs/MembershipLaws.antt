@@ -1,7 +1,7 @@
 -- Laws of membership: the SIDs of a list one by one; `Meeting` is the invariant of the walk over them (meeting_start -stop -end -decided
--- -more); the four tests of membership (reply-..), what the latest operand is told (told_other, told_list), no
+-- -more); the four tests of membership (reply-..), what the latest operand is told (outcome_told), no
 -- condition (admits_none), and no SID (none_told). Assumes nothing.
-use Prim.Native.Nat.{ℕ, zero, suc, ◌+◌, ◌%◌, ◌<◌, ◌≤◌}
+use Prim.Native.Nat.{ℕ, zero, suc, ◌+◌, ◌<◌, ◌≤◌}
 use mathlib.Core.Path.{◌≡◌, refl, ap, ◌∙◌}
 use mathlib.Core.List.{List, [], ◌∷◌}
 use mathlib.Core.Bool.{Bool, true, false, not}
@@ -9,13 +9,10 @@ use native.Mathlib.Omega.{arith}
 use lib.ListN.{length}
 use borrow.Author.Tests.{eq-eqb, ne_eqb}
 use Rattle.base.specs.Bytes.{part}
-use Rattle.conditions.specs.Condition.{Item, literal_end}
+use Rattle.conditions.specs.Condition.{Item, literal_end, told_by, outcome_by}
 use Rattle.conditions.specs.Condition.Item.{truth, sids}
-use Rattle.conditions.specs.Stack.{coded}
-use Rattle.conditions.specs.Membership.{sids_at, sids_of, all_of, any_of, meets, reply, told_of, admits}
-use Rattle.conditions.specs.declared.stack.Stack.{Stack}
+use Rattle.conditions.specs.Membership.{sids_at, sids_of, all_of, any_of, meets, reply, told_of, outcome, admits}
 use Rattle.conditions.proofs.OperandLaws.{enclosed_short, literal_none, literal_bounds}
-use Rattle.conditions.proofs.RunLaws.{holds_coded}
 
 -- ---- the SIDs of a list
 
@@ -100,19 +97,16 @@ module _ (f : List ℕ → Bool) (b : ℕ) (l : List (List ℕ)) where
 
 -- ---- the latest operand
 
-module _ (f : List ℕ → Bool) (s : List ℕ) (b : ℕ) (m : Stack) where
-  pub told_other : (m.word % 4 ≡ 3 → ⊥) → (st : List Item) → m ≡ coded st → told_of f s b st ≡ false
-  unfolding told_of
-  told_other h [] q = refl
-  told_other h (truth t ∷ st) q = refl
-  told_other h (sids a e ∷ st) q = let w = holds_coded m (sids a e ∷ st) q in absurd (h (omega arith))
+-- one who replies by the SIDs of the list that is handed tells what the definition tells
+told_by_reply : (f : List ℕ → Bool) (s : List ℕ) (b : ℕ) (st : List Item) →
+    told_by (λ b l. reply f b (sids_of l)) s b st ≡ told_of f s b st
+unfolding told_by told_of
+told_by_reply f s b [] = refl
+told_by_reply f s b (truth t ∷ st) = refl
+told_by_reply f s b (sids a e ∷ st) = refl
 
-  pub told_list : m.word % 4 ≡ 3 → (st : List Item) → m ≡ coded st → told_of f s b st ≡ reply f b (sids_of (part s m.from m.to))
-  unfolding told_of
-  told_list h [] q = let w : m.word ≡ 0 = ap (λ (k : Stack). k.word) q in absurd (omega arith)
-  told_list h (truth true ∷ st) q = let w = holds_coded m (truth true ∷ st) q in absurd (omega (arith, w))
-  told_list h (truth false ∷ st) q = let w = holds_coded m (truth false ∷ st) q in absurd (omega (arith, w))
-  told_list h (sids a e ∷ st) q = rw q
+pub outcome_told : (f : List ℕ → Bool) (s : List ℕ) → outcome_by (told_by (λ b l. reply f b (sids_of l)) s) s ≡ outcome f s
+outcome_told f s = ap (λ (tell : ℕ → List Item → Bool). outcome_by tell s) (λ i b st. told_by_reply f s b st i)
 
 -- ---- what admits
 

@@ -8,10 +8,12 @@ use native.Mathlib.Omega.{arith}
 use lib.ListN.{length}
 use lib.Dec.{ltb, eqb}
 use borrow.Author.Tests.{lt-ltb, le-ltb, ltb-true, ltb-false, eq-eqb, ne_eqb, eqb-true, eqb-false}
-use Rattle.base.specs.Bytes.{byte_at, u32_at, part}
+use Rattle.base.specs.Bytes.{byte_at, u32_at, part, found}
+use Rattle.base.proofs.FoundLaws.{found_none, found_at, place_found}
 use Rattle.sids.specs.Sid.{is_sid}
+use Rattle.std.specs.Prelude.{None, Some}
 use Rattle.conditions.specs.Condition.{enclosed_end, literal_end, literals_at, literals, stray}
-use Rattle.conditions.specs.declared.scan.Scan.TheVariants.{Broken, Plain}
+use Rattle.conditions.specs.Scanning.Scan.{Broken, Plain}
 
 -- ---- what a length encloses
 
@@ -62,6 +64,20 @@ module _ (s : List ℕ) (at : ℕ) where
           let w : literal_end s at ≡ enclosed_end s at = literal_is (eqb-false _ _ e) ∙ rw f in
           let b : (at + 5 ≤ enclosed_end s at) × (enclosed_end s at ≤ length s) = enclosed_bounds s at (eqb-false _ _ e) in
           (omega arith, omega arith)
+
+  module _ (e : ℕ) (q : Some e ≡ found (enclosed_end s at)) where
+    literal_by : literal_end s at ≡ cond (is_sid (part s (at + 5) e)) (enclosed_end s at) 0
+    literal_by =
+        let k = place_found (enclosed_end s at) e q in
+        literal_is (λ z. k.there (sym k.is ∙ z)) ∙ ap (λ (x : ℕ). cond (is_sid (part s (at + 5) x)) (enclosed_end s at) 0) k.is
+
+    pub literal_yes : is_sid (part s (at + 5) e) ≡ true → Some e ≡ found (literal_end s at)
+    literal_yes h =
+        let k = place_found (enclosed_end s at) e q in
+        found_at (literal_end s at) e (literal_by ∙ rw h k.is) k.there
+
+    pub literal_no : is_sid (part s (at + 5) e) ≡ false → None ≡ found (literal_end s at)
+    literal_no h = found_none (literal_end s at) (literal_by ∙ rw h)
 
 -- ---- a composite's literals
 

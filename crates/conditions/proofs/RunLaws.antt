@@ -1,6 +1,6 @@
 -- Laws of a run over the tokens. `Running` is the loop's invariant: the expression comes to what its bytes from a place on come to, with
 -- some operands that the code's state stands for and some number of steps that is enough. One law for each way on or out, for any way of
--- telling tests and any state K of the code. Past the end no token stands (step_none). Assumes nothing.
+-- telling tests. Past the end no token stands (step_none). Assumes nothing.
 use Prim.Native.Nat.{ℕ, zero, suc, ◌+◌, ◌<◌, ◌≤◌}
 use mathlib.Core.Path.{◌≡◌, refl, sym, ap, ◌∙◌}
 use mathlib.Core.List.{List, [], ◌∷◌}
@@ -8,17 +8,19 @@ use mathlib.Core.Bool.{Bool, true, false}
 use native.Mathlib.Omega.{arith}
 use lib.ListN.{length, drop}
 use borrow.Author.Tests.{eq-eqb, ne_eqb}
+use Rattle.std.specs.Prelude.{Result, Ok, Err}
 use Rattle.base.specs.Bytes.{byte_at, u32_at}
 use Rattle.conditions.specs.Condition.{zeros}
 use Rattle.conditions.specs.Condition.{Item, Next, step_at, ended, follow, run_from, outcome_by}
 use Rattle.conditions.specs.Condition.Next.{broken, foreign, on}
+use Rattle.conditions.specs.Scanning.{Outcome, weighed}
+use Rattle.conditions.specs.Scanning.Outcome.{Broken}
 use Rattle.conditions.specs.Stack.{word_of, coded, step_of}
-use Rattle.conditions.specs.declared.condition.Outcome.{Outcome}
-use Rattle.conditions.specs.declared.condition.Outcome.TheVariants.{Broken, Foreign}
+use Rattle.conditions.specs.declared.fault.Fault.{Fault}
+use Rattle.conditions.specs.declared.fault.Fault.TheVariants as fault
 use Rattle.conditions.specs.declared.stack.Stack.{Stack}
-use Rattle.conditions.specs.declared.stack.Step.{Step}
-use Rattle.conditions.specs.declared.stack.Step.TheVariants as step
 use Rattle.conditions.proofs.PaddingLaws.{zeros_end}
+use Rattle.conditions.proofs.StackLaws.{word_in}
 use Rattle.conditions.proofs.StepLaws.{step_past, on_past}
 
 byte_past : (s : List ℕ) (at : ℕ) → length s ≤ at → byte_at s at ≡ 0
@@ -30,18 +32,6 @@ byte_past (x ∷ s) (suc at) h = byte_past s at (omega arith)
 pub step_none : (told : Bool) (s : List ℕ) (at : ℕ) (st : List Item) → length s ≤ at → step_at told s at st ≡ foreign
 unfolding step_at
 step_none told s at st h = rw (byte_past s at h)
-
--- the code's word stands for the operands
-abbrev pub Holds : ℕ → List Item → Type 0
-Holds word st = word ≡ word_of st
-
--- the code's whole stack does
-abbrev pub Coded : Stack → List Item → Type 0
-Coded m st = m ≡ coded st
-
-pub holds_coded : (m : Stack) (st : List Item) → m ≡ coded st → Holds m.word st
-holds_coded m [] e = ap (λ (x : Stack). x.word) e
-holds_coded m (x ∷ st) e = ap (λ (x : Stack). x.word) e
 
 pub unopened : (tell : ℕ → List Item → Bool) (s : List ℕ) → (u32_at s 0 ≡ 0x78747261 → ⊥) → outcome_by tell s ≡ Broken
 unfolding outcome_by
@@ -66,65 +56,79 @@ module _ (tell : ℕ → List Item → Bool) (s : List ℕ) where
     unfolding run_from
     run_from_step h = rw (ne_eqb (byte_at s at) 0 h)
 
-  abbrev pub Running : (List Item → Type 0) → ℕ → Type 0
-  Running K at = (n : ℕ) × ((st : List Item) × ((length s ≤ at + n) × (K st × (outcome_by tell s ≡ run_from tell s n at st))))
+  -- the code's stack at a place
+  abbrev pub Running : Stack → ℕ → Type 0
+  Running m at = (n : ℕ) × ((st : List Item) × ((length s ≤ at + n) × ((m ≡ coded st) × (outcome_by tell s ≡ run_from tell s n at st))))
 
-  pub running_start : (K : List Item → Type 0) → u32_at s 0 ≡ 0x78747261 → K [] → Running K 4
+  pub running_start : (m : Stack) → m ≡ coded [] → u32_at s 0 ≡ 0x78747261 → Running m 4
   unfolding outcome_by
-  running_start K h k = (length s, ([], (omega arith, (k, rw (eq-eqb (u32_at s 0) 0x78747261 h)))))
+  running_start m k h = (length s, ([], (omega arith, (k, rw (eq-eqb (u32_at s 0) 0x78747261 h)))))
 
-  module _ (K : List Item → Type 0) (at : ℕ) where
-    pub running_end : Running K at → length s ≤ at → (o : Outcome) → ((st : List Item) → K st → o ≡ ended st) → outcome_by tell s ≡ o
-    running_end (n, (st, (l, (k, e)))) h o f = e ∙ run_from_end n at st h ∙ sym (f st k)
+  module _ (m : Stack) (at : ℕ) (run : Running m at) where
+    -- what the code ends with
+    abbrev pub Ended : Result Bool Fault → Type 0
+    Ended r = (st : List Item) → m.word ≡ word_of st → r ≡ weighed (ended st)
 
-    pub running_padded : Running K at → at < length s → byte_at s at ≡ 0 → zeros (drop at s) ≡ true → (o : Outcome) →
-        ((st : List Item) → K st → o ≡ ended st) → outcome_by tell s ≡ o
-    running_padded (zero, (st, (l, (k, e)))) h b z o f = absurd (omega arith)
-    running_padded (suc n, (st, (l, (k, e)))) h b z o f = e ∙ run_from_padded n at st b z ∙ sym (f st k)
-
-    pub running_stained : Running K at → at < length s → byte_at s at ≡ 0 → zeros (drop at s) ≡ false → outcome_by tell s ≡ Broken
-    running_stained (zero, (st, (l, (k, e)))) h b z = absurd (omega arith)
-    running_stained (suc n, (st, (l, (k, e)))) h b z = e ∙ run_from_stained n at st b z
-
-    -- a step of the code from a place
-    abbrev pub Stepped : Step → Type 0
-    Stepped r = (st : List Item) → K st → r ≡ step_of (step_at (tell (byte_at s at) st) s at st)
-
-    pub running_broken : Running K at → at < length s → (byte_at s at ≡ 0 → ⊥) → Stepped step.Broken → outcome_by tell s ≡ Broken
-    running_broken (zero, (st, (l, (k, e)))) h b f = absurd (omega arith)
-    running_broken (suc n, (st, (l, (k, e)))) h b f = e ∙ run_from_step n at st b ∙ go (step_at (tell (byte_at s at) st) s at st) (f st k)
+    pub running_end : (r : Result Bool Fault) → Ended r → length s ≤ at → r ≡ weighed (outcome_by tell s)
+    running_end r f h = go run
       where
-        go : (x : Next) → step.Broken ≡ step_of x → follow (run_from tell s n) x ≡ Broken
-        go broken q = refl
-        go foreign q = let z : ◌≡◌ {A = ℕ} 0 1 = cc in absurd (omega arith)
-        go (on p t) q = let z : ◌≡◌ {A = ℕ} 0 1 = cc in absurd (omega arith)
+        go : Running m at → r ≡ weighed (outcome_by tell s)
+        go (n, (st, (l, (k, e)))) = f st (word_in m st k) ∙ ap weighed (sym (e ∙ run_from_end n at st h))
 
-    pub running_foreign : Running K at → at < length s → (byte_at s at ≡ 0 → ⊥) → Stepped step.Foreign → outcome_by tell s ≡ Foreign
-    running_foreign (zero, (st, (l, (k, e)))) h b f = absurd (omega arith)
-    running_foreign (suc n, (st, (l, (k, e)))) h b f = e ∙ run_from_step n at st b ∙ go (step_at (tell (byte_at s at) st) s at st) (f st k)
+    pub running_padded : (r : Result Bool Fault) → Ended r → at < length s → byte_at s at ≡ 0 → zeros (drop at s) ≡ true →
+        r ≡ weighed (outcome_by tell s)
+    running_padded r f h b z = go run
       where
-        go : (x : Next) → step.Foreign ≡ step_of x → follow (run_from tell s n) x ≡ Foreign
-        go broken q = let z : ◌≡◌ {A = ℕ} 0 1 = cc in absurd (omega arith)
-        go foreign q = refl
-        go (on p t) q = let z : ◌≡◌ {A = ℕ} 0 1 = cc in absurd (omega arith)
+        go : Running m at → r ≡ weighed (outcome_by tell s)
+        go (zero, (st, (l, (k, e)))) = absurd (omega arith)
+        go (suc n, (st, (l, (k, e)))) = f st (word_in m st k) ∙ ap weighed (sym (e ∙ run_from_padded n at st b z))
 
-    module _ (p : ℕ) (m : Stack) where
-      pub running_past : Running K at → Stepped (step.On p m) → (at < p) × ((m.from ≤ m.to) × (m.to ≤ length s))
-      running_past (n, (st, (l, (k, e)))) f =
-          on_past s at p m (step_at (tell (byte_at s at) st) s at st) (step_past s at (tell (byte_at s at) st) st) (f st k)
+    pub running_stained : at < length s → byte_at s at ≡ 0 → zeros (drop at s) ≡ false → outcome_by tell s ≡ Broken
+    running_stained h b z = go run
+      where
+        go : Running m at → outcome_by tell s ≡ Broken
+        go (zero, (st, (l, (k, e)))) = absurd (omega arith)
+        go (suc n, (st, (l, (k, e)))) = e ∙ run_from_stained n at st b z
 
-      pub running_on : (K' : List Item → Type 0) → ((st : List Item) → m ≡ coded st → K' st) → Running K at → at < length s →
-          (byte_at s at ≡ 0 → ⊥) → Stepped (step.On p m) → Running K' p
-      running_on K' u (zero, (st, (l, (k, e)))) h b f = absurd (omega arith)
-      running_on K' u (suc n, (st, (l, (k, e)))) h b f =
-          let lt : at < p = (running_past (suc n, (st, (l, (k, e)))) f).0 in
-          go (step_at (tell (byte_at s at) st) s at st) (f st k) (e ∙ run_from_step n at st b) lt l
+    -- a step of the code from the place
+    abbrev pub Stepped : Result (ℕ × Stack) Fault → Type 0
+    Stepped r = (st : List Item) → m ≡ coded st → r ≡ step_of (step_at (tell (byte_at s at) st) s at st)
+
+    pub running_fault : (f : Fault) → Stepped (Err f) → at < length s → (byte_at s at ≡ 0 → ⊥) → Err f ≡ weighed (outcome_by tell s)
+    running_fault f step h b = go run
+      where
+        faulty : (k : ℕ → List Item → Outcome) (x : Next) → Err f ≡ step_of x → Err f ≡ weighed (follow k x)
+        faulty k broken q = let same : f ≡ fault.Broken = cc in ap (λ (x : Fault). Err x) same
+        faulty k foreign q = let same : f ≡ fault.Foreign = cc in ap (λ (x : Fault). Err x) same
+        faulty k (on p t) q = absurd (cc)
+
+        go : Running m at → Err f ≡ weighed (outcome_by tell s)
+        go (zero, (st, (l, (k, e)))) = absurd (omega arith)
+        go (suc n, (st, (l, (k, e)))) =
+            faulty (run_from tell s n) (step_at (tell (byte_at s at) st) s at st) (step st k) ∙ ap weighed (sym (e ∙ run_from_step n at st b))
+
+    module _ (p : ℕ) (next : Stack) (step : Stepped (Ok (p, next))) where
+      pub running_past : (at < p) × ((next.from ≤ next.to) × (next.to ≤ length s))
+      running_past = go run
         where
-          go : (x : Next) → step.On p m ≡ step_of x → outcome_by tell s ≡ follow (run_from tell s n) x → at < p → length s ≤ at + suc n →
-              Running K' p
-          go broken q r y l = let z : ◌≡◌ {A = ℕ} 0 1 = cc in absurd (omega arith)
-          go foreign q r y l = let z : ◌≡◌ {A = ℕ} 0 1 = cc in absurd (omega arith)
-          go (on p' t) q r y l =
-              let same : p ≡ p' = cc in
-              let kept : m ≡ coded t = cc in
-              (n, (t, (omega arith, (u t kept, r ∙ ap (λ (i : ℕ). run_from tell s n i t) (sym same)))))
+          go : Running m at → (at < p) × ((next.from ≤ next.to) × (next.to ≤ length s))
+          go (n, (st, (l, (k, e)))) =
+              on_past s at p next (step_at (tell (byte_at s at) st) s at st) (step_past s at (tell (byte_at s at) st) st) (step st k)
+
+      pub running_on : at < length s → (byte_at s at ≡ 0 → ⊥) → Running next p
+      running_on h b = go run
+        where
+          follows : (n : ℕ) (x : Next) → Ok (p, next) ≡ step_of x → outcome_by tell s ≡ follow (run_from tell s n) x →
+              length s ≤ at + suc n → Running next p
+          follows n broken q r l = absurd (cc)
+          follows n foreign q r l = absurd (cc)
+          follows n (on p' t) q r l =
+              let past = running_past in
+              let both : ◌≡◌ {A = ℕ × Stack} (p, next) (p', coded t) = cc in
+              let same : p ≡ p' = ap (λ (k : ℕ × Stack). k.0) both in
+              let kept : next ≡ coded t = ap (λ (k : ℕ × Stack). k.1) both in
+              (n, (t, (omega arith, (kept, r ∙ ap (λ (i : ℕ). run_from tell s n i t) (sym same)))))
+
+          go : Running m at → Running next p
+          go (zero, (st, (l, (k, e)))) = absurd (omega arith)
+          go (suc n, (st, (l, (k, e)))) = follows n (step_at (tell (byte_at s at) st) s at st) (step st k) (e ∙ run_from_step n at st b) l

@@ -6,6 +6,7 @@ use mathlib.Core.List.{List, [], ◌∷◌}
 use mathlib.Core.Bool.{Bool, true, false, cond}
 use lib.ListN.{length, drop}
 use lib.Dec.{ltb, eqb}
+use Rattle.std.specs.Prelude.{Ok, Err}
 use Rattle.base.specs.Bytes.{byte_at, part}
 use Rattle.conditions.specs.Condition.{zeros}
 use Rattle.conditions.specs.Condition.{Item, Next, enclosed_end, literal_end, literals, asks, deepest, push, given, literal, composite}
@@ -13,9 +14,11 @@ use Rattle.conditions.specs.Condition.{answered, paired, negated, step_at, ended
 use Rattle.conditions.specs.Condition.{shape}
 use Rattle.conditions.specs.Condition.Item.{truth, sids}
 use Rattle.conditions.specs.Condition.Next.{broken, foreign, on}
-use Rattle.conditions.specs.declared.scan.Scan.{Scan}
-use Rattle.conditions.specs.declared.scan.Scan.TheVariants as scan
-use Rattle.conditions.specs.declared.condition.Outcome.{Outcome}
+use Rattle.conditions.specs.Scanning.{Scan, Outcome, scan_result, weighed}
+use Rattle.conditions.specs.Scanning.{Scan as scan}
+use Rattle.conditions.specs.Scanning.Outcome.{Broken, Foreign, Says}
+use Rattle.conditions.specs.declared.fault.Fault.{Fault}
+use Rattle.conditions.specs.declared.fault.Fault.TheVariants as fault
 
 -- operands that differ in truths alone
 abbrev Alike : List Item → List Item → Type 0
@@ -172,3 +175,20 @@ module _ (f g : ℕ → List Item → Bool) (s : List ℕ) where
 pub shape_any : (tell : ℕ → List Item → Bool) (s : List ℕ) → shape_of (outcome_by tell s) ≡ shape s
 unfolding shape
 shape_any tell s = shape_alike tell untold s
+
+-- the code's answer on the shape is its answer on any outcome, without the truth
+pub judged_fault : (tell : ℕ → List Item → Bool) (s : List ℕ) (e : Fault) → Err e ≡ weighed (outcome_by tell s) → Err e ≡ scan_result (shape s)
+judged_fault tell s e h = go (outcome_by tell s) h ∙ ap scan_result (shape_any tell s)
+  where
+    go : (o : Outcome) → Err e ≡ weighed o → Err e ≡ scan_result (shape_of o)
+    go Broken q = let same : e ≡ fault.Broken = cc in ap (λ (x : Fault). Err x) same
+    go Foreign q = let same : e ≡ fault.Foreign = cc in ap (λ (x : Fault). Err x) same
+    go (Says b) q = absurd (cc)
+
+pub judged_plain : (tell : ℕ → List Item → Bool) (s : List ℕ) (b : Bool) → Ok b ≡ weighed (outcome_by tell s) → Ok tt ≡ scan_result (shape s)
+judged_plain tell s b h = go (outcome_by tell s) h ∙ ap scan_result (shape_any tell s)
+  where
+    go : (o : Outcome) → Ok b ≡ weighed o → Ok tt ≡ scan_result (shape_of o)
+    go Broken q = absurd (cc)
+    go Foreign q = absurd (cc)
+    go (Says t) q = refl

@@ -1,25 +1,28 @@
 -- Laws of the operands in a word of two bits each. In order: bounds (word_lt, word_ge), one operand more (push_broken, push_on); the
--- operators, by the lowest digits (negated-.., paired-.., answered-..), and the end (ended-..). Each goes by the cases of the operands; a
--- digit that does not fit is refused by arithmetic. Assumes nothing.
-use Prim.Native.Nat.{ℕ, suc, ◌+◌, ◌-◌, ◌*◌, ◌/◌, ◌%◌, ◌^◌, ◌<◌, ◌≤◌}
-use mathlib.Core.Path.{◌≡◌, refl, ap₂, ◌∙◌}
+-- operators, by what the lowest digits stand for (latest, negated-.., paired-.., answered-..), and the end (ended-..). Each goes by the cases
+-- of the operands. Assumes nothing.
+use Prim.Native.Nat.{ℕ, suc, ◌+◌, ◌*◌, ◌/◌, ◌%◌, ◌^◌, ◌<◌, ◌≤◌}
+use mathlib.Core.Path.{◌≡◌, refl, sym, ap, ◌∙◌}
 use mathlib.Core.List.{List, [], ◌∷◌}
-use mathlib.Core.Bool.{Bool, true, false, cond, ◌&&◌, ◌||◌}
+use mathlib.Core.Bool.{Bool, true, false, cond, not, ◌&&◌, ◌||◌}
 use native.Mathlib.Nat.{pow-suc, pow-le-pow_right}
 use native.Mathlib.Omega.{arith}
 use lib.ListN.{length}
 use lib.Dec.{ltb}
 use borrow.Author.Tests.{ltb-true, ltb-false, eq-eqb, ne_eqb}
-use Rattle.conditions.specs.Condition.{Item, enclosed_end, literal_end, literals, literal, composite, given, deepest, push, negated}
-use Rattle.conditions.specs.Condition.{paired}
-use Rattle.conditions.specs.Condition.{answered, ended}
-use Rattle.base.specs.Bytes.{part}
+use Rattle.std.specs.Prelude.{Some, Result, Ok, Err}
+use Rattle.conditions.specs.Condition.{Item, Next, enclosed_end, literal_end, literals, literal, composite, given, deepest, push, negated}
+use Rattle.conditions.specs.Condition.{paired, answered, ended, told_by}
+use Rattle.base.specs.Bytes.{part, found}
 use Rattle.conditions.specs.Condition.Item.{truth, sids}
 use Rattle.conditions.specs.Condition.Next.{broken, on}
-use Rattle.conditions.specs.Stack.{bit_of, digit, from_of, to_of, word_of, step_of, combine, Pushes}
-use Rattle.conditions.specs.declared.condition.Outcome.TheVariants as outcome
-use Rattle.conditions.specs.declared.stack.Step.{Step}
-use Rattle.conditions.specs.declared.stack.Step.TheVariants as step
+use Rattle.conditions.specs.Scanning.{Scan, scan_result}
+use Rattle.conditions.specs.Scanning.{Scan as scan, Outcome as outcome}
+use Rattle.conditions.specs.Stack.{digit, word_of, coded, step_of, truth_in, Steps}
+use Rattle.conditions.specs.declared.fault.Fault.{Fault}
+use Rattle.conditions.specs.declared.fault.Fault.TheVariants as fault
+use Rattle.conditions.specs.declared.stack.Stack.{Stack}
+use Rattle.base.proofs.FoundLaws.{place_found}
 
 -- ---- bounds
 
@@ -67,10 +70,6 @@ module _ (next : ℕ) (x : Item) (st : List Item) where
           let p : 4 ^ 32 ≤ 4 ^ length st = pow-le-pow_right {n = 4} (omega arith) {i = 32} {j = length st} (omega arith) in
           absurd (omega (arith, word_ge st))
 
-pub on_is : (next : ℕ) (x : Item) (st : List Item) (word from to : ℕ) → word ≡ word_of (x ∷ st) → from ≡ from_of x → to ≡ to_of x →
-    step.On next (record { word = word; from = from; to = to }) ≡ step_of (on next (x ∷ st))
-on_is next x st word from to w f t = rw (w, f, t)
-
 -- ---- the operands
 
 module _ (s : List ℕ) (at : ℕ) (st : List Item) where
@@ -91,22 +90,103 @@ module _ (s : List ℕ) (at : ℕ) (st : List Item) where
   unfolding composite
   composite_given e q h = rw (q, ne_eqb (enclosed_end s at) 0 (λ z. h (q ∙ z)))
 
+given_fault : (v : Scan) (x : Next) (f : Fault) → Err f ≡ scan_result v → Err f ≡ step_of (given v x)
+given_fault scan.Broken x f q = let same : f ≡ fault.Broken = cc in ap (λ (e : Fault). Err e) same
+given_fault scan.Foreign x f q = let same : f ≡ fault.Foreign = cc in ap (λ (e : Fault). Err e) same
+given_fault scan.Plain x f q = absurd (cc)
+
+given_plain : (v : Scan) (x : Next) (u : Unit) → Ok u ≡ scan_result v → step_of x ≡ step_of (given v x)
+given_plain scan.Broken x u q = absurd (cc)
+given_plain scan.Foreign x u q = absurd (cc)
+given_plain scan.Plain x u q = refl
+
+module _ (s : List ℕ) (at e : ℕ) (q : Some e ≡ found (enclosed_end s at)) (st : List Item) where
+  composite_is : step_of (composite s at st) ≡ step_of (given (literals (part s (at + 5) e)) (push e (sids (at + 5) e) st))
+  composite_is =
+      let k = place_found (enclosed_end s at) e q in
+      ap step_of (composite_given s at st e (sym k.is) k.there)
+
+  pub composite_fault : (f : Fault) → Err f ≡ scan_result (literals (part s (at + 5) e)) → Err f ≡ step_of (composite s at st)
+  composite_fault f h =
+      given_fault (literals (part s (at + 5) e)) (push e (sids (at + 5) e) st) f h ∙ sym composite_is
+
+  pub composite_plain : (u : Unit) → Ok u ≡ scan_result (literals (part s (at + 5) e)) → step_of (push e (sids (at + 5) e) st) ≡ step_of (composite s at st)
+  composite_plain u h = given_plain (literals (part s (at + 5) e)) (push e (sids (at + 5) e) st) u h ∙ sym composite_is
+
 -- ---- the operators
 
-pub negated_other : (next : ℕ) (st : List Item) → (word_of st % 4 ≡ 1 → ⊥) → (word_of st % 4 ≡ 2 → ⊥) → negated next st ≡ broken
-unfolding negated
-negated_other next [] h k = refl
-negated_other next (sids a e ∷ st) h k = refl
-negated_other next (truth false ∷ st) h k = absurd (h (omega arith))
-negated_other next (truth true ∷ st) h k = absurd (k (omega arith))
+-- the operands under the latest
+pub rest_is : (x : Item) (st : List Item) (word : ℕ) → word ≡ word_of (x ∷ st) → word / 4 ≡ word_of st
+rest_is x st word q = let d = digit_some x in omega (arith, d.0, d.1)
 
-pub negated_truth : (word next : ℕ) (r : Step) → Pushes (word / 4) (3 - word % 4) 0 0 next r → (word % 4 ≡ 0 → ⊥) → (word % 4 ≡ 3 → ⊥) →
-    (st : List Item) → word ≡ word_of st → r ≡ step_of (negated next st)
-unfolding negated
-negated_truth word next r f h k [] q = absurd (h (omega arith))
-negated_truth word next r f h k (sids a e ∷ st) q = absurd (k (omega arith))
-negated_truth word next r f h k (truth false ∷ st) q = f st (truth true) (omega arith) (omega arith) refl refl
-negated_truth word next r f h k (truth true ∷ st) q = f st (truth false) (omega arith) (omega arith) refl refl
+-- the truth that stands latest, or none
+abbrev latest : List Item → Result Bool Fault
+latest [] = Err fault.Broken
+latest (sids a e ∷ st) = Err fault.Broken
+latest (truth b ∷ st) = Ok b
+
+latest_is : (st : List Item) (word : ℕ) → word ≡ word_of st → truth_in word ≡ latest st
+latest_is [] word q = ap truth_in q
+latest_is (sids a e ∷ st) word q = rw (ne_eqb (word % 4) 1 (λ k. omega arith), ne_eqb (word % 4) 2 (λ k. omega arith))
+latest_is (truth false ∷ st) word q = rw (eq-eqb (word % 4) 1 (omega arith))
+latest_is (truth true ∷ st) word q = rw (ne_eqb (word % 4) 1 (λ k. omega arith), eq-eqb (word % 4) 2 (omega arith))
+
+broken_is : (e : Fault) → ◌≡◌ {A = Result Bool Fault} (Err e) (Err fault.Broken) → ◌≡◌ {A = Result (ℕ × Stack) Fault} (Err e) (Err fault.Broken)
+broken_is e h = let same : e ≡ fault.Broken = cc in ap (λ (x : Fault). Err x) same
+
+module _ (word next : ℕ) where
+  pub negated_fault : (e : Fault) → Err e ≡ truth_in word → Steps word (negated next) (Err e)
+  unfolding negated
+  negated_fault e h [] q = broken_is e (h ∙ latest_is [] word q)
+  negated_fault e h (sids a f ∷ st) q = broken_is e (h ∙ latest_is (sids a f ∷ st) word q)
+  negated_fault e h (truth b ∷ st) q = let z = h ∙ latest_is (truth b ∷ st) word q in absurd (cc)
+
+  pub negated_truth : (b : Bool) (r : Result (ℕ × Stack) Fault) → Ok b ≡ truth_in word → Steps (word / 4) (push next (truth (not b))) r →
+      Steps word (negated next) r
+  unfolding negated
+  negated_truth b r h f [] q = let z = h ∙ latest_is [] word q in absurd (cc)
+  negated_truth b r h f (sids a e ∷ st) q = let z = h ∙ latest_is (sids a e ∷ st) word q in absurd (cc)
+  negated_truth b r h f (truth t ∷ st) q =
+      let z = h ∙ latest_is (truth t ∷ st) word q in
+      let same : b ≡ t = cc in
+      f st (rest_is (truth t) st word q) ∙ ap (λ (x : Bool). step_of (push next (truth (not x)) st)) same
+
+module _ (every : Bool) (word next : ℕ) where
+  pub paired_first : (e : Fault) → Err e ≡ truth_in word → Steps word (paired every next) (Err e)
+  unfolding paired
+  paired_first e h [] q = broken_is e (h ∙ latest_is [] word q)
+  paired_first e h (sids a f ∷ st) q = broken_is e (h ∙ latest_is (sids a f ∷ st) word q)
+  paired_first e h (truth b ∷ st) q = let z = h ∙ latest_is (truth b ∷ st) word q in absurd (cc)
+
+  pub paired_second : (e : Fault) (b : Bool) → Ok b ≡ truth_in word → Err e ≡ truth_in (word / 4) → Steps word (paired every next) (Err e)
+  unfolding paired
+  paired_second e b h k [] q = let z = h ∙ latest_is [] word q in absurd (cc)
+  paired_second e b h k (sids a f ∷ st) q = let z = h ∙ latest_is (sids a f ∷ st) word q in absurd (cc)
+  paired_second e b h k (truth t ∷ []) q = broken_is e (k ∙ latest_is [] (word / 4) (rest_is (truth t) [] word q))
+  paired_second e b h k (truth t ∷ sids a f ∷ st) q =
+      broken_is e (k ∙ latest_is (sids a f ∷ st) (word / 4) (rest_is (truth t) (sids a f ∷ st) word q))
+  paired_second e b h k (truth t ∷ truth u ∷ st) q =
+      let z = k ∙ latest_is (truth u ∷ st) (word / 4) (rest_is (truth t) (truth u ∷ st) word q) in absurd (cc)
+
+  pub paired_truths : (b a : Bool) (r : Result (ℕ × Stack) Fault) → Ok b ≡ truth_in word → Ok a ≡ truth_in (word / 4) →
+      Steps (word / 16) (push next (truth (cond every (a && b) (a || b)))) r → Steps word (paired every next) r
+  unfolding paired
+  paired_truths b a r h k f [] q = let z = h ∙ latest_is [] word q in absurd (cc)
+  paired_truths b a r h k f (sids i e ∷ st) q = let z = h ∙ latest_is (sids i e ∷ st) word q in absurd (cc)
+  paired_truths b a r h k f (truth t ∷ []) q =
+      let z = k ∙ latest_is [] (word / 4) (rest_is (truth t) [] word q) in absurd (cc)
+  paired_truths b a r h k f (truth t ∷ sids i e ∷ st) q =
+      let z = k ∙ latest_is (sids i e ∷ st) (word / 4) (rest_is (truth t) (sids i e ∷ st) word q) in absurd (cc)
+  paired_truths b a r h k f (truth t ∷ truth u ∷ st) q =
+      let under = rest_is (truth t) (truth u ∷ st) word q in
+      let y = h ∙ latest_is (truth t ∷ truth u ∷ st) word q in
+      let z = k ∙ latest_is (truth u ∷ st) (word / 4) under in
+      let two : b ≡ t = cc in
+      let one : a ≡ u = cc in
+      let deep : word / 4 / 4 ≡ word_of st = rest_is (truth u) st (word / 4) under in
+      f st (omega arith)
+      ∙ ap (λ (x : Bool). step_of (push next (truth (cond every (a && x) (a || x))) st)) two
+      ∙ ap (λ (x : Bool). step_of (push next (truth (cond every (x && t) (x || t))) st)) one
 
 pub answered_other : (told : Bool) (next : ℕ) (st : List Item) → (word_of st % 4 ≡ 3 → ⊥) → answered told next st ≡ broken
 unfolding answered
@@ -114,70 +194,21 @@ answered_other told next [] h = refl
 answered_other told next (truth b ∷ st) h = refl
 answered_other told next (sids a e ∷ st) h = absurd (h (omega arith))
 
-pub answered_list : (told : Bool) (word next d : ℕ) (r : Step) → Pushes (word / 4) d 0 0 next r → d ≡ bit_of told → word % 4 ≡ 3 →
-    (st : List Item) → word ≡ word_of st → r ≡ step_of (answered told next st)
-unfolding answered
-answered_list told word next d r f g h [] q = absurd (omega arith)
-answered_list told word next d r f g h (truth false ∷ st) q = absurd (omega arith)
-answered_list told word next d r f g h (truth true ∷ st) q = absurd (omega arith)
-answered_list told word next d r f g h (sids a e ∷ st) q = f st (truth told) (omega arith) g refl refl
+-- the word of the whole stack
+pub word_in : (m : Stack) (st : List Item) → m ≡ coded st → m.word ≡ word_of st
+word_in m [] e = ap (λ (x : Stack). x.word) e
+word_in m (x ∷ st) e = ap (λ (x : Stack). x.word) e
 
--- the latest is no truth, or the one before it is none
-pub paired_first : (every : Bool) (next : ℕ) (st : List Item) → (word_of st % 4 ≡ 1 → ⊥) → (word_of st % 4 ≡ 2 → ⊥) →
-    paired every next st ≡ broken
-unfolding paired
-paired_first every next [] h k = refl
-paired_first every next (sids a e ∷ st) h k = refl
-paired_first every next (truth false ∷ st) h k = absurd (h (omega arith))
-paired_first every next (truth true ∷ st) h k = absurd (k (omega arith))
-
-pub paired_second : (every : Bool) (next : ℕ) (st : List Item) → (word_of st / 4 % 4 ≡ 1 → ⊥) → (word_of st / 4 % 4 ≡ 2 → ⊥) →
-    paired every next st ≡ broken
-unfolding paired
-paired_second every next [] h k = refl
-paired_second every next (sids a e ∷ st) h k = refl
-paired_second every next (truth b ∷ []) h k = refl
-paired_second every next (truth b ∷ sids a e ∷ st) h k = refl
-paired_second every next (truth false ∷ truth false ∷ st) h k = absurd (h (omega arith))
-paired_second every next (truth true ∷ truth false ∷ st) h k = absurd (h (omega arith))
-paired_second every next (truth false ∷ truth true ∷ st) h k = absurd (k (omega arith))
-paired_second every next (truth true ∷ truth true ∷ st) h k = absurd (k (omega arith))
-
-bit_some : (b : Bool) → (1 ≤ bit_of b) × (bit_of b ≤ 2)
-bit_some false = (omega arith, omega arith)
-bit_some true = (omega arith, omega arith)
-
-combine_is : (every a b : Bool) → combine every (bit_of a) (bit_of b) ≡ bit_of (cond every (a && b) (a || b))
-combine_is true true true = refl
-combine_is true true false = refl
-combine_is true false true = refl
-combine_is true false false = refl
-combine_is false true true = refl
-combine_is false true false = refl
-combine_is false false true = refl
-combine_is false false false = refl
-
-lowest : (w d r : ℕ) → w ≡ d + 4 * r → d < 4 → w % 4 ≡ d
-lowest w d r e h = omega arith
-
-pub paired_truths : (every : Bool) (word next d : ℕ) (r : Step) → Pushes (word / 16) d 0 0 next r →
-    d ≡ combine every (word / 4 % 4) (word % 4) → (word % 4 ≡ 0 → ⊥) → (word % 4 ≡ 3 → ⊥) → (word / 4 % 4 ≡ 0 → ⊥) →
-    (word / 4 % 4 ≡ 3 → ⊥) →
-    (st : List Item) → word ≡ word_of st → r ≡ step_of (paired every next st)
-unfolding paired
-paired_truths every word next d r f g h k m n [] q = absurd (h (omega arith))
-paired_truths every word next d r f g h k m n (sids a e ∷ st) q = absurd (k (omega arith))
-paired_truths every word next d r f g h k m n (truth false ∷ []) q = absurd (m (omega arith))
-paired_truths every word next d r f g h k m n (truth true ∷ []) q = absurd (m (omega arith))
-paired_truths every word next d r f g h k m n (truth false ∷ sids a e ∷ st) q = absurd (n (omega arith))
-paired_truths every word next d r f g h k m n (truth true ∷ sids a e ∷ st) q = absurd (n (omega arith))
-paired_truths every word next d r f g h k m n (truth b ∷ truth a ∷ st) q =
-    let u : (1 ≤ bit_of a) × (bit_of a ≤ 2) = bit_some a in
-    let v : (1 ≤ bit_of b) × (bit_of b ≤ 2) = bit_some b in
-    let x : word % 4 ≡ bit_of b = omega arith in
-    let z : word / 4 ≡ bit_of a + 4 * word_of st = omega arith in
-    let y : word / 4 % 4 ≡ bit_of a = lowest (word / 4) (bit_of a) (word_of st) z (omega arith) in
-    f st (truth (cond every (a && b) (a || b))) (omega arith) (g ∙ ap₂ (combine every) y x ∙ combine_is every a b) refl refl
+pub answered_list : (tell : ℕ → List ℕ → Bool) (s : List ℕ) (b next : ℕ) (m : Stack) (t : Bool) (r : Result (ℕ × Stack) Fault) →
+    t ≡ tell b (part s m.from m.to) → Steps (m.word / 4) (push next (truth t)) r → m.word % 4 ≡ 3 → (st : List Item) → m ≡ coded st →
+    r ≡ step_of (answered (told_by tell s b st) next st)
+unfolding answered told_by
+answered_list tell s b next m t r g f h [] q = let w = word_in m [] q in absurd (omega arith)
+answered_list tell s b next m t r g f h (truth false ∷ st) q = let w = word_in m (truth false ∷ st) q in absurd (omega arith)
+answered_list tell s b next m t r g f h (truth true ∷ st) q = let w = word_in m (truth true ∷ st) q in absurd (omega arith)
+answered_list tell s b next m t r g f h (sids a e ∷ st) q =
+    f st (rest_is (sids a e) st m.word (word_in m (sids a e ∷ st) q))
+    ∙ ap (λ (x : Bool). step_of (push next (truth x) st)) (g ∙ ap (λ (k : Stack). tell b (part s k.from k.to)) q)
 
 -- ---- the end
 

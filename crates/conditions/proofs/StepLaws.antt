@@ -3,78 +3,75 @@
 use Prim.Native.Nat.{ℕ, ◌+◌, ◌<◌, ◌≤◌}
 use mathlib.Core.Path.{◌≡◌, refl, ap}
 use mathlib.Core.List.{List, [], ◌∷◌}
-use mathlib.Core.Bool.{Bool, true, false, cond}
+use mathlib.Core.Bool.{Bool, true, false, cond, ◌||◌}
 use native.Mathlib.Omega.{arith}
 use lib.ListN.{length}
 use lib.Dec.{ltb, eqb}
 use borrow.Author.Tests.{eq-eqb, ne_eqb, eqb-false}
 use Rattle.base.specs.Bytes.{byte_at, part}
+use Rattle.std.specs.Prelude.{Ok}
 use Rattle.conditions.specs.Condition.{Item, Next, enclosed_end, literal_end, literals, asks, deepest, push, given, literal, composite}
 use Rattle.conditions.specs.Condition.{answered, paired, negated, step_at}
 use Rattle.conditions.specs.Condition.Item.{truth, sids}
 use Rattle.conditions.specs.Condition.Next.{broken, foreign, on}
 use Rattle.conditions.specs.Stack.{from_of, to_of, coded, step_of}
-use Rattle.conditions.specs.declared.scan.Scan.{Scan}
-use Rattle.conditions.specs.declared.scan.Scan.TheVariants as scan
+use Rattle.conditions.specs.Scanning.{Scan}
+use Rattle.conditions.specs.Scanning.{Scan as scan}
 use Rattle.conditions.specs.declared.stack.Stack.{Stack}
-use Rattle.conditions.specs.declared.stack.Step.TheVariants as step
 use Rattle.conditions.proofs.OperandLaws.{enclosed_bounds, literal_bounds}
 
 -- ---- which token stands at a place
 
+pub asks_some : (b : ℕ) → ((b ≡ 0x89 → ⊥) → (b ≡ 0x8b → ⊥) → (b ≡ 0x90 → ⊥) → b ≡ 0x92) → asks b ≡ true
+asks_some b h = go (eqb b 0x89) refl (eqb b 0x8b) refl (eqb b 0x90) refl
+  where
+    go : (x : Bool) → eqb b 0x89 ≡ x → (y : Bool) → eqb b 0x8b ≡ y → (z : Bool) → eqb b 0x90 ≡ z → (x || y || z || eqb b 0x92) ≡ true
+    go true p y q z r = refl
+    go false p true q z r = refl
+    go false p false q true r = refl
+    go false p false q false r = eq-eqb b 0x92 (h (eqb-false _ _ p) (eqb-false _ _ q) (eqb-false _ _ r))
+
 module _ (told : Bool) (s : List ℕ) (at : ℕ) (st : List Item) where
   pub step_literal : byte_at s at ≡ 0x51 → step_at told s at st ≡ literal s at st
   unfolding step_at
-  step_literal h = rw (eq-eqb (byte_at s at) 0x51 h)
+  step_literal h = rw h
 
   pub step_composite : byte_at s at ≡ 0x50 → step_at told s at st ≡ composite s at st
   unfolding step_at
-  step_composite h = rw (ne_eqb (byte_at s at) 0x51 (λ q. omega arith), eq-eqb (byte_at s at) 0x50 h)
+  step_composite h = rw h
+
+  pub step_both : byte_at s at ≡ 0xa0 → step_at told s at st ≡ paired true (at + 1) st
+  unfolding step_at
+  step_both h = rw h
+
+  pub step_either : byte_at s at ≡ 0xa1 → step_at told s at st ≡ paired false (at + 1) st
+  unfolding step_at
+  step_either h = rw h
+
+  pub step_not : byte_at s at ≡ 0xa2 → step_at told s at st ≡ negated (at + 1) st
+  unfolding step_at
+  step_not h = rw h
 
   module _ (l : byte_at s at ≡ 0x51 → ⊥) (c : byte_at s at ≡ 0x50 → ⊥) where
     pub step_asks : asks (byte_at s at) ≡ true → step_at told s at st ≡ answered told (at + 1) st
     unfolding step_at
     step_asks h = rw (ne_eqb (byte_at s at) 0x51 l, ne_eqb (byte_at s at) 0x50 c, h)
 
-    module _ (m : asks (byte_at s at) ≡ false) where
-      pub step_both : byte_at s at ≡ 0xa0 → step_at told s at st ≡ paired true (at + 1) st
-      unfolding step_at
-      step_both h = rw (ne_eqb (byte_at s at) 0x51 l, ne_eqb (byte_at s at) 0x50 c, m, eq-eqb (byte_at s at) 0xa0 h)
-
-      pub step_either : byte_at s at ≡ 0xa1 → step_at told s at st ≡ paired false (at + 1) st
-      unfolding step_at
-      step_either h =
-          rw (
-            ne_eqb (byte_at s at) 0x51 l,
-            ne_eqb (byte_at s at) 0x50 c,
-            m,
-            ne_eqb (byte_at s at) 0xa0 (λ q. omega arith),
-            eq-eqb (byte_at s at) 0xa1 h,
-          )
-
-      pub step_not : byte_at s at ≡ 0xa2 → step_at told s at st ≡ negated (at + 1) st
-      unfolding step_at
-      step_not h =
-          rw (
-            ne_eqb (byte_at s at) 0x51 l,
-            ne_eqb (byte_at s at) 0x50 c,
-            m,
-            ne_eqb (byte_at s at) 0xa0 (λ q. omega arith),
-            ne_eqb (byte_at s at) 0xa1 (λ q. omega arith),
-            eq-eqb (byte_at s at) 0xa2 h,
-          )
-
-      pub step_foreign : (byte_at s at ≡ 0xa0 → ⊥) → (byte_at s at ≡ 0xa1 → ⊥) → (byte_at s at ≡ 0xa2 → ⊥) → step_at told s at st ≡ foreign
-      unfolding step_at
-      step_foreign x y z =
-          rw (
-            ne_eqb (byte_at s at) 0x51 l,
-            ne_eqb (byte_at s at) 0x50 c,
-            m,
-            ne_eqb (byte_at s at) 0xa0 x,
-            ne_eqb (byte_at s at) 0xa1 y,
-            ne_eqb (byte_at s at) 0xa2 z,
-          )
+    pub step_foreign : (byte_at s at ≡ 0x89 → ⊥) → (byte_at s at ≡ 0x8b → ⊥) → (byte_at s at ≡ 0x90 → ⊥) → (byte_at s at ≡ 0x92 → ⊥) →
+        (byte_at s at ≡ 0xa0 → ⊥) → (byte_at s at ≡ 0xa1 → ⊥) → (byte_at s at ≡ 0xa2 → ⊥) → step_at told s at st ≡ foreign
+    unfolding step_at
+    step_foreign m n o p x y z =
+        rw (
+          ne_eqb (byte_at s at) 0x51 l,
+          ne_eqb (byte_at s at) 0x50 c,
+          ne_eqb (byte_at s at) 0x89 m,
+          ne_eqb (byte_at s at) 0x8b n,
+          ne_eqb (byte_at s at) 0x90 o,
+          ne_eqb (byte_at s at) 0x92 p,
+          ne_eqb (byte_at s at) 0xa0 x,
+          ne_eqb (byte_at s at) 0xa1 y,
+          ne_eqb (byte_at s at) 0xa2 z,
+        )
 
 -- ---- a token takes a byte at least, and a list lies inside
 
@@ -159,13 +156,14 @@ module _ (s : List ℕ) (at : ℕ) where
       (cond_past (eqb (byte_at s at) 0xa1) _ _ (paired_past false (at + 1) st (omega arith))
       (cond_past (eqb (byte_at s at) 0xa2) _ _ (negated_past (at + 1) st (omega arith)) tt)))))
 
-  pub on_past : (p : ℕ) (m : Stack) (x : Next) → Past s at x → step.On p m ≡ step_of x →
+  pub on_past : (p : ℕ) (m : Stack) (x : Next) → Past s at x → Ok (p, m) ≡ step_of x →
       (at < p) × ((m.from ≤ m.to) × (m.to ≤ length s))
-  on_past p m broken h e = let z : ◌≡◌ {A = ℕ} 0 1 = cc in absurd (omega arith)
-  on_past p m foreign h e = let z : ◌≡◌ {A = ℕ} 0 1 = cc in absurd (omega arith)
+  on_past p m broken h e = absurd (cc)
+  on_past p m foreign h e = absurd (cc)
   on_past p m (on q st) h e =
-      let y : p ≡ q = cc in
-      let z : m ≡ coded st = cc in
+      let both : ◌≡◌ {A = ℕ × Stack} (p, m) (q, coded st) = cc in
+      let y : p ≡ q = ap (λ (k : ℕ × Stack). k.0) both in
+      let z : m ≡ coded st = ap (λ (k : ℕ × Stack). k.1) both in
       let f : m.from ≡ (coded st).from = ap (λ (k : Stack). k.from) z in
       let t : m.to ≡ (coded st).to = ap (λ (k : Stack). k.to) z in
       (omega arith, (omega arith, omega arith))

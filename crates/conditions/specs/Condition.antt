@@ -4,10 +4,9 @@
 use Rattle.std.specs.Prelude.{ℕ, zero, suc, ◌+◌, List, [], ◌∷◌, Bool, true, false, cond, not, ◌&&◌, ◌||◌, length, drop, ltb, eqb}
 use Rattle.base.specs.Bytes.{byte_at, u32_at, part}
 use Rattle.sids.specs.Sid.{is_sid}
-use Rattle.conditions.specs.declared.scan.Scan.{Scan}
-use Rattle.conditions.specs.declared.scan.Scan.TheVariants as scan
-use Rattle.conditions.specs.declared.condition.Outcome.{Outcome}
-use Rattle.conditions.specs.declared.condition.Outcome.TheVariants.{Broken, Foreign, Says}
+use Rattle.conditions.specs.Scanning.{Scan, Outcome}
+use Rattle.conditions.specs.Scanning.{Scan as scan}
+use Rattle.conditions.specs.Scanning.Outcome.{Broken, Foreign, Says}
 
 -- every byte is 0
 unfoldable pub zeros : List ℕ → Bool
@@ -155,6 +154,12 @@ shape_of (Says b) = scan.Plain
 -- the shape: which of the three it is does not depend on what tests are told (proofs/ShapeLaws)
 abbrev pub untold : ℕ → List Item → Bool
 untold b st = false
+
+-- what a test is told of the list that stands latest, by one who is handed the test's byte and the list's bytes; of no list false
+unfoldable pub told_by : (ℕ → List ℕ → Bool) → List ℕ → ℕ → List Item → Bool
+told_by tell s b [] = false
+told_by tell s b (truth t ∷ st) = false
+told_by tell s b (sids a e ∷ st) = tell b (part s a e)
 
 unfoldable pub shape : List ℕ → Scan
 shape s = shape_of (outcome_by untold s)

@@ -4,8 +4,8 @@ use Rattle.std.specs.Prelude.{ℕ, zero, suc, ◌+◌, List, [], ◌∷◌, Bool
 use Rattle.base.specs.Bytes.{part}
 use Rattle.conditions.specs.Condition.{Item, literal_end, outcome_by}
 use Rattle.conditions.specs.Condition.Item.{truth, sids}
-use Rattle.conditions.specs.declared.condition.Outcome.{Outcome}
-use Rattle.conditions.specs.declared.condition.Outcome.TheVariants.{Broken, Foreign, Says}
+use Rattle.conditions.specs.Scanning.{Outcome}
+use Rattle.conditions.specs.Scanning.Outcome.{Broken, Foreign, Says}
 
 -- the SIDs of the literals that stand back to back from a place
 unfoldable pub sids_at : List ℕ → ℕ → ℕ → List (List ℕ)

@@ -3,11 +3,10 @@
 #![tactic(auto)]
 
 mod condition;
+mod fault;
 mod padding;
-mod scan;
 mod stack;
 
-pub use condition::{Outcome, judge, literal_end, step};
+pub use condition::{Tests, judge, literal_end, weigh};
+pub use fault::Fault;
 pub use padding::zeros;
-pub use scan::{Scan, is_broken, is_foreign};
-pub use stack::{Stack, Step, ended};

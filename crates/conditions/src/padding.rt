@@ -6,12 +6,5 @@ ghost use Rattle.conditions.specs.Condition.{zeros};
 pub fn zeros(s: &[u8]) -> bool
     ensures { result ≡ zeros s.now }
 {
-    let mut i: usize = 0;
-    while i < s.len() {
-        if s[i] != 0 {
-            return false;
-        }
-        i += 1;
-    }
-    true
+    s.iter().all(|b| *b == 0)
 }

@@ -1,121 +1,106 @@
 // The stack of an expression, by value: a digit of two bits for each operand, the latest lowest.
 // The digits are 1 false, 2 true, 3 a list of SIDs; so 0 is no operand, and 62 bits hold 31. Only
 // the latest operand's place is kept: a list that another operand covers is never asked again.
-ghost use Rattle.std.specs.Prelude.{◌≡◌, ◌<◌, List};
-ghost use Rattle.conditions.specs.Condition.{Item, negated, paired, answered, ended};
-ghost use Rattle.conditions.specs.Stack.{word_of, bit_of, combine, Pushes, Steps};
+ghost use Rattle.std.specs.Prelude.{◌≡◌, ◌≤◌, ◌&&◌, ◌||◌, cond, List, ◌∷◌};
+ghost use Rattle.conditions.specs.Condition.{Item, push, negated, paired, ended};
+ghost use Rattle.conditions.specs.Scanning.{weighed};
+ghost use Rattle.conditions.specs.Stack.{word_of, coded, item_of, truth_in, Steps};
 
-use crate::condition::Outcome;
+use crate::fault::Fault;
 
 // The operands, and where the latest stands if it is a list; else 0 and 0.
 #[derive(Clone, Copy)]
-pub struct Stack {
+pub(crate) struct Stack {
     pub word: u64,
     pub from: usize,
     pub to: usize,
 }
 
-// What one token comes to: a fault, or the place after it and the operands then.
+// An operand: a truth, or a list of SIDs, from a place up to another.
 #[derive(Clone, Copy)]
-pub enum Step {
-    Broken,
-    Foreign,
-    On(usize, Stack),
+pub(crate) enum Operand {
+    Truth(bool),
+    Sids(usize, usize),
 }
 
-// The digit of a truth.
-fn digit_of(b: bool) -> u64
-    ensures { (result ≡ bit_of b) × (result < 4) }
-{
-    if b {
-        return 2;
+impl Operand {
+    // The stack with this operand on the operands of a word.
+    fn on(self, rest: u64) -> Stack
+        requires { rest ≤ 0x3fffffffffffffff }
+        ensures { (st : List Item) → rest ≡ word_of st → result ≡ coded (item_of self ∷ st) }
+    {
+        match self {
+            Operand::Truth(b) => Stack {
+                word: 4 * rest + 1 + u64::from(b),
+                from: 0,
+                to: 0,
+            },
+            Operand::Sids(from, to) => Stack {
+                word: 4 * rest + 3,
+                from,
+                to,
+            },
+        }
     }
-    1
 }
+
+// The place after a token, and the operands then; or its fault.
+pub(crate) type Step = Result<(usize, Stack), Fault>;
 
 // One operand more; "a stack deeper than 32 is broken".
-pub(crate) fn push(rest: u64, d: u64, from: usize, to: usize, next: usize) -> Step
-    requires { d < 4 }
-    ensures { Pushes rest d from to next result }
+pub(crate) fn push(rest: u64, x: Operand, next: usize) -> Step
+    ensures { Steps rest (push next (item_of x)) result }
 {
     if 0x3fff_ffff_ffff_ffff < rest {
-        return Step::Broken;
+        return Err(Fault::Broken);
     }
-    let word = 4 * rest + d;
-    Step::On(next, Stack { word, from, to })
+    Ok((next, x.on(rest)))
+}
+
+// The truth that stands latest.
+fn truth(word: u64) -> Result<bool, Fault>
+    ensures { result ≡ truth_in word }
+{
+    match word % 4 {
+        1 => Ok(false),
+        2 => Ok(true),
+        _ => Err(Fault::Broken),
+    }
 }
 
 // Not: takes a truth.
 pub(crate) fn negated(word: u64, next: usize) -> Step
     ensures { Steps word (negated next) result }
 {
-    let d = word % 4;
-    if d == 0 {
-        return Step::Broken;
-    }
-    if d == 3 {
-        return Step::Broken;
-    }
-    push(word / 4, 3 - d, 0, 0, next)
+    let b = truth(word)?;
+    push(word / 4, Operand::Truth(!b), next)
 }
 
 // And, or: take two truths.
 pub(crate) fn paired(every: bool, word: u64, next: usize) -> Step
     ensures { Steps word (paired every next) result }
 {
-    let b = word % 4;
-    let a = word / 4 % 4;
-    if b == 0 {
-        return Step::Broken;
-    }
-    if b == 3 {
-        return Step::Broken;
-    }
-    if a == 0 {
-        return Step::Broken;
-    }
-    if a == 3 {
-        return Step::Broken;
-    }
-    push(word / 16, combined(every, a, b), 0, 0, next)
+    let b = truth(word)?;
+    let a = truth(word / 4)?;
+    push(word / 16, Operand::Truth(joined(every, a, b)), next)
 }
 
-// The lower digit of two, or the higher: false is the lower.
-fn combined(every: bool, a: u64, b: u64) -> u64
-    requires { (a < 4) × (b < 4) }
-    ensures { (result ≡ combine every a b) × (result < 4) }
+// Both of two truths, or either.
+// kept: `every` is a truth, since the definition `paired` takes one; a closure would be longer.
+fn joined(every: bool, a: bool, b: bool) -> bool
+    ensures { result ≡ cond every (a && b) (a || b) }
 {
-    if a < b {
-        if every {
-            return a;
-        }
-        return b;
-    }
-    if every {
-        return b;
-    }
-    a
-}
-
-// The four tests of membership: take a list, and give what is told.
-pub(crate) fn answered(told: bool, word: u64, next: usize) -> Step
-    ensures { Steps word (answered told next) result }
-{
-    if word % 4 != 3 {
-        return Step::Broken;
-    }
-    push(word / 4, digit_of(told), 0, 0, next)
+    if every { a && b } else { a || b }
 }
 
 // "The end needs exactly one truth".
-pub fn ended(word: u64) -> Outcome
-    ensures { (st : List Item) → word ≡ word_of st → result ≡ ended st }
+// kept: `truth` reads the lowest digit and this the whole word, since nothing may stand below it.
+pub(crate) fn ended(word: u64) -> Result<bool, Fault>
+    ensures { (st : List Item) → word ≡ word_of st → result ≡ weighed (ended st) }
 {
-    if word == 1 {
-        return Outcome::Says(false);
+    match word {
+        1 => Ok(false),
+        2 => Ok(true),
+        _ => Err(Fault::Broken),
     }
-    if word == 2 {
-        return Outcome::Says(true);
-    }
-    Outcome::Broken
 }

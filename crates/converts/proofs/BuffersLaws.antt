@@ -1,28 +1,27 @@
--- Laws of buffers. In order: `untouched_hit untouched_miss untouched_end`, a buffer from a place on; `puts_more puts_full puts_done`, a
--- part from a place on; `fills_more crowds_more`, one time more.
+-- Laws of buffers. In order: `untouched_all`, the test of each byte; `puts_more puts_full puts_done`, a part from a
+-- place on.
 -- Assumes nothing.
 use Prim.Native.Nat.{ℕ, ◌+◌, ◌≤◌, ◌<◌}
-use mathlib.Core.Path.{◌≡◌}
-use mathlib.Core.List.{List}
-use mathlib.Core.Bool.{true, false}
+use mathlib.Core.Path.{◌≡◌, refl}
+use mathlib.Core.List.{List, [], ◌∷◌}
+use mathlib.Core.Bool.{Bool, true, false, cond}
+use lib.Dec.{eqb}
+use Rattle.std.specs.Prelude.{◌==◌, ◌&&◌}
+use Rattle.std.specs.List.{list_all}
 use native.Mathlib.Numerals.{add-one}
-use borrow.Author.Tests.{le-leb, lt-leb, eq-eqb, ne_eqb}
+use borrow.Author.Tests.{le-leb, lt-leb}
 use lib.ListN.{length, drop, get_or, set, drop_of_length-le}
 use lib.Seq.{drop-cons}
-use Rattle.converts.specs.Buffers.{untouched, Build, build, puts, fills, crowds}
+use Rattle.converts.specs.Buffers.{untouched, build, puts}
 
-module _ (s : List ℕ) (i : ℕ) where
-  pub untouched_hit : i < length s → get_or s i 0 ≡ 170 → untouched (drop i s) ≡ untouched (drop (i + 1) s)
-  unfolding untouched
-  untouched_hit h e = rw (add-one, drop-cons s i 0 h, eq-eqb (get_or s i 0) 170 e)
-
-  pub untouched_miss : i < length s → (get_or s i 0 ≡ 170 → ⊥) → untouched (drop i s) ≡ false
-  unfolding untouched
-  untouched_miss h e = rw (drop-cons s i 0 h, ne_eqb (get_or s i 0) 170 e)
-
-  pub untouched_end : length s ≤ i → untouched (drop i s) ≡ true
-  unfolding untouched
-  untouched_end h = rw (drop_of_length-le s h)
+pub untouched_all : (s : List ℕ) → list_all (λ b. b == 170) s ≡ untouched s
+unfolding untouched
+untouched_all [] = refl
+untouched_all (b ∷ s) = go (eqb b 170) (untouched_all s)
+  where
+    go : (v : Bool) → list_all (λ b. b == 170) s ≡ untouched s → (v && list_all (λ b. b == 170) s) ≡ cond v (untouched s) false
+    go true h = h
+    go false h = refl
 
 module _ (part out : List ℕ) (i to : ℕ) where
   pub puts_more :
@@ -38,13 +37,3 @@ module _ (part out : List ℕ) (i to : ℕ) where
   pub puts_done : length part ≤ i → puts (drop i part) (build out to) ≡ build out to
   unfolding puts
   puts_done h = rw (drop_of_length-le part h)
-
-pub fills_more : (part : List ℕ) (n : ℕ) (p : Build) → puts part (fills part n p) ≡ fills part (n + 1) p
-unfolding fills
-fills_more part n p = rw (add-one n)
-
-pub crowds_more :
-    (head word tail : List ℕ) (n : ℕ) (p : Build)
-    → puts tail (fills word 15 (puts head (crowds head word tail n p))) ≡ crowds head word tail (n + 1) p
-unfolding crowds
-crowds_more head word tail n p = rw (add-one n)

@@ -1,70 +1,62 @@
 // The cases of a file: a line with a name, and after it the record of a token, its listing, or
 // both.
-use crate::report::{listing, pair_into, record};
+// kept: buffers of a fixed size, which `testkit::bytes_of` is lent and whose end it has to heed.
+ghost use Rattle.std.specs.Prelude.{◌≤◌};
+
+use crate::report::{Form, pair_into, refused};
 use std::io;
-use testkit::{after, bytes_of, next_line};
+use testkit::{Lines, bytes_of, first_line};
+
+// Puts the bytes of a form, in hexadecimal digits up to a line end, into a buffer, and answers how
+// many they are: none where digits are missing or there is no room.
+fn form(digits: &[u8], bytes: &mut [u8; 4096]) -> usize
+    ensures { result ≤ 4096 }
+{
+    bytes_of(digits, b'\n', bytes).unwrap_or(0)
+}
 
 // A listing alone is refused.
 fn with_listing(rt: &impl Print, name: &[u8], rest: &[u8]) -> io::Result<()> {
-    let a = after(rest, 0, b"listing = ");
-    if rest.len() < a {
+    let Some(digits) = rest.strip_prefix(b"listing = ") else {
         return Ok(());
-    }
+    };
     let mut bytes = [0u8; 4096];
-    let h = bytes_of(&rest[a..], b'\n', &mut bytes);
-    let n = h.length;
-    listing(rt, name, &bytes[0..n])
+    let n = form(digits, &mut bytes);
+    refused(rt, Form::Listing, name, &bytes[0..n])
 }
 
 // A record alone is refused; where a listing follows, each is turned into the other.
-fn with_record(rt: &impl Print, name: &[u8], form: &[u8], rest: &[u8]) -> io::Result<()> {
-    let a = after(rest, 0, b"listing = ");
-    if rest.len() < a {
-        return record(rt, name, form);
-    }
+fn with_record(rt: &impl Print, name: &[u8], record: &[u8], rest: &[u8]) -> io::Result<()> {
+    let Some(digits) = rest.strip_prefix(b"listing = ") else {
+        return refused(rt, Form::Record, name, record);
+    };
     let mut bytes = [0u8; 4096];
-    let h = bytes_of(&rest[a..], b'\n', &mut bytes);
-    let n = h.length;
-    pair_into(rt, name, form, &bytes[0..n], 22940, 28021)
+    let n = form(digits, &mut bytes);
+    pair_into(rt, name, record, &bytes[0..n], 22940, 28021)
+}
+
+// The line of a record, behind its name, and what follows on it.
+fn record_line(rest: &[u8]) -> Option<(&[u8], &[u8])> {
+    first_line(rest.strip_prefix(b"record = ")?)
 }
 
 // The forms that follow on a name.
 fn forms(rt: &impl Print, name: &[u8], rest: &[u8]) -> io::Result<()> {
-    let a = after(rest, 0, b"record = ");
-    if rest.len() <= a {
+    let Some((digits, others)) = record_line(rest) else {
         return with_listing(rt, name, rest);
-    }
+    };
     let mut bytes = [0u8; 4096];
-    let h = bytes_of(&rest[a..], b'\n', &mut bytes);
-    let n = h.length;
-    let next = next_line(rest, a);
-    with_record(rt, name, &bytes[0..n], &rest[next..])
-}
-
-// The case that begins with a line, if one does, where the rest of the text is what follows.
-fn case(rt: &impl Print, line: &[u8], rest: &[u8]) -> io::Result<()> {
-    let a = after(line, 0, b"# ");
-    if line.len() <= a {
-        return Ok(());
-    }
-    let end = line.len() - 1;
-    forms(rt, &line[a..end], rest)
-}
-
-// Goes through a text line by line.
-fn cases(rt: &impl Print, text: &[u8]) -> io::Result<()> {
-    let mut at: usize = 0;
-    while at < text.len() {
-        let next = next_line(text, at);
-        case(rt, &text[at..next], &text[next..])?;
-        at = next;
-    }
-    Ok(())
+    let n = form(digits, &mut bytes);
+    with_record(rt, name, &bytes[0..n], others)
 }
 
 // Runs the cases of a file.
 pub(crate) fn run(rt: &HostRuntime, name: &[u8]) -> io::Result<()> {
-    let mut text = [0u8; 16384];
-    let n = testkit::read(rt, name, &mut text)?;
-    cases(rt, &text[0..n])
+    let text = testkit::read(rt, name, 16384)?;
+    for (line, rest) in Lines(&text) {
+        if let Some([name @ .., _]) = line.strip_prefix(b"# ") {
+            forms(rt, name, rest)?;
+        }
+    }
+    Ok(())
 }

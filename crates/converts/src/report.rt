@@ -1,93 +1,89 @@
 // Converts, and writes what came of it.
-ghost use Rattle.std.specs.Prelude.{◌≡◌, ◌++◌, ◌≤◌, length, take, drop};
+ghost use Rattle.std.specs.Prelude.{◌≡◌, ◌++◌, ◌≤◌, ◌==◌, length, take, drop};
 ghost use Rattle.std.proofs.lemmas.List.Edits.{sets};
-ghost use Rattle.records.specs.Converters.{as_listing, as_record, fitted};
-ghost use Rattle.tokens.specs.Answers.{answered};
+ghost use Rattle.records.specs.Converters.{fitted};
+ghost use Rattle.tokens.specs.Answers.{answered, converted_by};
 ghost use Rattle.converts.specs.Buffers.{untouched};
+ghost use Rattle.converts.specs.Forms.{made};
 
 use std::io;
-use testkit::{print, print_number};
-use tokens::Converted;
+use testkit::print;
+use tokens::Refusal;
+
+// The two forms of a token.
+#[derive(Clone, Copy)]
+pub(crate) enum Form {
+    Record,
+    Listing,
+}
 
 // Whether each byte is the one that a buffer is filled with before it is lent.
 fn is_untouched(s: &[u8]) -> bool
     ensures { result ≡ untouched s.now }
 {
-    let mut i: usize = 0;
-    while i < s.len() {
-        if s[i] != 170 {
-            return false;
-        }
-        i += 1;
-    }
-    true
-}
-
-fn print_either(rt: &impl Print, test: bool, yes: &[u8], no: &[u8]) -> io::Result<()> {
-    if test {
-        return print(rt, yes);
-    }
-    print(rt, no)
+    s.iter().all(|b| *b == 170)
 }
 
 // Writes one answer: what stands in the whole buffer, of which a part was lent, and what is wanted
 // there on success.
-fn print_answer(rt: &impl Print, c: Converted, buffer: &[u8], wanted: &[u8]) -> io::Result<()> {
-    print(rt, b" ")?;
-    print_number(rt, c.status as u64)?;
-    print(rt, b" ")?;
-    print_number(rt, c.length as u64)?;
-    let n = c.length;
-    if buffer.len() < n {
-        return print(rt, b" TOO LONG");
-    }
-    print_either(rt, is_untouched(&buffer[n..]), b" kept", b" CHANGED")?;
-    if c.status == 0 {
-        print_either(rt, base::same(&buffer[0..n], wanted), b" same", b" OTHER")?;
+fn print_answer(
+    rt: &impl Print,
+    answer: Result<usize, Refusal>,
+    buffer: &[u8],
+    wanted: &[u8],
+) -> io::Result<()> {
+    let (status, length) = match answer {
+        Ok(length) => (0, length),
+        Err(refusal) => (refusal.number(), 0),
+    };
+    print!(rt; " {status} {length}")?;
+    let Some((bytes, rest)) = buffer.split_at_checked(length) else {
+        return print!(rt; " TOO LONG");
+    };
+    print!(rt;
+        "{}",
+        if is_untouched(rest) {
+            " kept"
+        } else {
+            " CHANGED"
+        }
+    )?;
+    if status == 0 {
+        print!(rt;
+            "{}",
+            if base::same(bytes, wanted) {
+                " same"
+            } else {
+                " OTHER"
+            }
+        )?;
     }
     Ok(())
 }
 
-// A record into the first `room` bytes of a buffer.
-fn listing_into(record: &[u8], buffer: &mut [u8], room: usize) -> Converted
+// A token of a form into the first `room` bytes of a buffer, in the other form.
+fn convert_into(form: Form, token: &[u8], buffer: &mut [u8], room: usize) -> Result<usize, Refusal>
     requires { room ≤ length buffer.old }
-    ensures value { result ≡ answered (fitted room (as_listing «record».now)) }
+    ensures value { converted_by result ≡ answered (fitted room (made form token.now)) }
     ensures buffer_after { buffer.new
         ≡ sets (take room buffer.old) 0
-        (fitted room (as_listing «record».now)).bytes
+        (fitted room (made form token.now)).bytes
         ++ drop room buffer.old }
 {
-    tokens::to_listing(record, &mut buffer[0..room])
+    let lent = &mut buffer[0..room];
+    match form {
+        Form::Record => tokens::to_listing(token, lent),
+        Form::Listing => tokens::to_record(token, lent),
+    }
 }
 
-// A listing into the first `room` bytes of a buffer.
-fn record_into(listing: &[u8], buffer: &mut [u8], room: usize) -> Converted
-    requires { room ≤ length buffer.old }
-    ensures value { result ≡ answered (fitted room (as_record listing.now)) }
-    ensures buffer_after { buffer.new
-        ≡ sets (take room buffer.old) 0
-        (fitted room (as_record listing.now)).bytes
-        ++ drop room buffer.old }
-{
-    tokens::to_record(listing, &mut buffer[0..room])
-}
-
-// A record into a buffer of `room` bytes, and what is wanted there.
-fn forth(rt: &impl Print, record: &[u8], room: usize, listing: &[u8]) -> io::Result<()>
-    requires { room ≤ 22940 }
-{
-    let mut buffer = [170u8; 22940];
-    let c = listing_into(record, &mut buffer, room);
-    print_answer(rt, c, &buffer[0..22940], listing)
-}
-
-// A listing into a buffer of `room` bytes, and what is wanted there.
-fn back(rt: &impl Print, listing: &[u8], room: usize, record: &[u8]) -> io::Result<()>
+// A token of a form into a buffer of `room` bytes, in the other form, and what is wanted there.
+fn convert(rt: &impl Print, form: Form, token: &[u8], room: usize, wanted: &[u8]) -> io::Result<()>
     requires { room ≤ 28021 }
 {
     let mut buffer = [170u8; 28021];
-    let c = record_into(listing, &mut buffer, room);
-    print_answer(rt, c, &buffer[0..28021], record)
+    let answer = convert_into(form, token, &mut buffer, room);
+    print_answer(rt, answer, &buffer[0..28021], wanted)
 }
 
 // A token in its two forms: the listing into a buffer of `room` bytes, the record into `hold`.
@@ -102,31 +98,22 @@ pub(crate) fn pair_into(
     requires { (room ≤ 22940) × (hold ≤ 28021) }
 {
     print(rt, name)?;
-    print(rt, b":")?;
-    forth(rt, record, room, listing)?;
-    print(rt, b",")?;
-    back(rt, listing, hold, record)?;
-    print(rt, b"\n")
+    print!(rt; ":")?;
+    convert(rt, Form::Record, record, room, listing)?;
+    print!(rt; ",")?;
+    convert(rt, Form::Listing, listing, hold, record)?;
+    print!(rt; "\n")
 }
 
-fn print_case(rt: &impl Print, form: &[u8], length: usize, name: &[u8]) -> io::Result<()> {
-    print(rt, form)?;
-    print_number(rt, length as u64)?;
-    print(rt, b" bytes, ")?;
+// A token of a form that is refused.
+pub(crate) fn refused(rt: &impl Print, form: Form, name: &[u8], token: &[u8]) -> io::Result<()> {
+    let (word, room) = match form {
+        Form::Record => ("record", 22940),
+        Form::Listing => ("listing", 28021),
+    };
+    print!(rt; "{word} of {} bytes, ", token.len())?;
     print(rt, name)?;
-    print(rt, b":")
-}
-
-// A record that is refused.
-pub(crate) fn record(rt: &impl Print, name: &[u8], s: &[u8]) -> io::Result<()> {
-    print_case(rt, b"record of ", s.len(), name)?;
-    forth(rt, s, 22940, b"")?;
-    print(rt, b"\n")
-}
-
-// A listing that is refused.
-pub(crate) fn listing(rt: &impl Print, name: &[u8], s: &[u8]) -> io::Result<()> {
-    print_case(rt, b"listing of ", s.len(), name)?;
-    back(rt, s, 28021, b"")?;
-    print(rt, b"\n")
+    print!(rt; ":")?;
+    convert(rt, form, token, room, b"")?;
+    print!(rt; "\n")
 }

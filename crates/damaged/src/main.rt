@@ -4,33 +4,30 @@
 #![tactic(auto)]
 
 ghost use Rattle.std.specs.Prelude.{◌≡◌, ◌/◌, length};
-ghost use Rattle.lists.specs.Descriptor.{number_of};
+ghost use Rattle.lists.specs.Descriptor.{number_of, parts_of};
 ghost use Rattle.damaged.specs.Changes.{put_at, changed};
 
-use lists::Verdict;
+use lists::Refusal;
 use std::io;
-use testkit::{print, print_number};
+use testkit::{Lines, print};
 
-// The page's number for a verdict.
-fn number(v: Verdict) -> u64
-    ensures { result ≡ number_of v }
+// The page's number for what is wrong with a descriptor, 0 where nothing is.
+fn number(d: &[u8]) -> u64
+    ensures { result ≡ number_of (parts_of d.now).verdict }
 {
-    match v {
-        Verdict::Whole => 0,
-        Verdict::Misshapen => 6,
-        Verdict::Ownerless => 7,
-        Verdict::ForeignEntry => 8,
+    match lists::read(d) {
+        Ok(_) => 0,
+        Err(Refusal::Misshapen) => 6,
+        Err(Refusal::Ownerless) => 7,
+        Err(Refusal::ForeignEntry) => 8,
     }
 }
 
 // Writes a case's line.
 fn show(rt: &impl Print, name: &[u8], d: &[u8]) -> io::Result<()> {
-    let p = lists::read(d);
-    let v = p.verdict;
+    let n = number(d);
     print(rt, name)?;
-    print(rt, b" ")?;
-    print_number(rt, number(v))?;
-    print(rt, b"\n")
+    println!(rt; " {n}")
 }
 
 // D, cut short.
@@ -44,6 +41,7 @@ fn lengths(rt: &impl Print) -> io::Result<()> {
 }
 
 // An owner alone, S-1-0 at 20, and zeros after it.
+// kept: 65,536 bytes on the stack, of which parts are read; a Vec could fail.
 fn longest(rt: &impl Print) -> io::Result<()> {
     let mut d = [0u8; 65536];
     d[0] = 1;
@@ -57,24 +55,24 @@ fn longest(rt: &impl Print) -> io::Result<()> {
 }
 
 // Puts another byte at a place, if 64 bytes have it.
+#[tactic(auto, unfolding(crate::specs::Changes::put_at))]
 fn place(d: &mut [u8; 64], at: u8, v: u8)
     ensures { d.new ≡ put_at d.old at v }
 {
-    let k = base::wide(at) as usize;
+    let k = usize::from(at);
     if k < 64 {
         d[k] = v;
     }
 }
 
 // D with other bytes: of each two bytes the first is a place and the second what stands there.
+#[tactic(auto, unfolding(crate::specs::Changes::changed))]
 fn changed(changes: &[u8]) -> [u8; 64]
     ensures { result ≡ changed changes.now (length changes.now / 2) }
 {
     let mut d = testkit::descriptor();
-    let mut k: usize = 0;
-    while k < changes.len() / 2 {
+    for k in 0..changes.len() / 2 {
         place(&mut d, changes[2 * k], changes[2 * k + 1]);
-        k += 1;
     }
     d
 }
@@ -82,35 +80,21 @@ fn changed(changes: &[u8]) -> [u8; 64]
 // Writes the line of a case of the file, if a line has one: the changes, a blank, and the name.
 fn case(rt: &impl Print, line: &[u8]) -> io::Result<()> {
     let mut changes = [0u8; 16];
-    let h = testkit::bytes_of(line, b' ', &mut changes);
-    if !h.ok {
+    let Some(n) = testkit::bytes_of(line, b' ', &mut changes) else {
         return Ok(());
+    };
+    match line.get(2 * n + 1..) {
+        Some([name @ .., _]) => show(rt, name, &changed(&changes[..n])),
+        _ => Ok(()),
     }
-    let n = h.length;
-    let from = 2 * n + 1;
-    if line.len() <= from {
-        return Ok(());
-    }
-    let to = line.len() - 1;
-    let d = changed(&changes[0..n]);
-    show(rt, &line[from..to], &d[0..64])
-}
-
-// Goes through a text line by line.
-fn cases(rt: &impl Print, text: &[u8]) -> io::Result<()> {
-    let mut at: usize = 0;
-    while at < text.len() {
-        let next = testkit::next_line(text, at);
-        case(rt, &text[at..next])?;
-        at = next;
-    }
-    Ok(())
 }
 
 fn main(rt: HostRuntime) -> io::Result<()> {
     lengths(&rt)?;
     longest(&rt)?;
-    let mut text = [0u8; 4096];
-    let n = testkit::read(&rt, b"changes.txt", &mut text)?;
-    cases(&rt, &text[0..n])
+    let text = testkit::read(&rt, b"changes.txt", 4096)?;
+    for (line, _) in Lines(&text) {
+        case(&rt, line)?;
+    }
+    Ok(())
 }

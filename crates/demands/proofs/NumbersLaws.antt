@@ -26,12 +26,12 @@ use Rattle.lists.specs.Descriptor.{
   judged,
   parts_of,
 }
-use Rattle.lists.specs.declared.descriptor.Parts.{Parts}
-use Rattle.lists.specs.declared.descriptor.Piece.{Piece}
-use Rattle.lists.specs.declared.descriptor.Verdict.TheVariants.{Misshapen, Ownerless, ForeignEntry}
+use Rattle.lists.specs.Descriptor.{Parts}
+use Rattle.lists.specs.Descriptor.{Piece}
+use Rattle.lists.specs.Descriptor.Verdict.{Misshapen, Ownerless, ForeignEntry}
 use Rattle.policy.specs.Policy as policy
 use Rattle.policy.specs.Policy.{rules_shaped, rules_unread, standing, standing_of}
-use Rattle.policy.specs.declared.shape.Standing.TheVariants.{Sound, Misshapen as Unshaped}
+use Rattle.policy.specs.Standing.Standing.{Sound, Misshapen as Unshaped}
 use Rattle.access.specs.Status.{descriptor_number, policy_number}
 use Rattle.demands.specs.Conditions.{◌when◌, lowest, descriptor_misshapen, ownerless, foreign_dacl, policy_misshapen, policy_unread}
 

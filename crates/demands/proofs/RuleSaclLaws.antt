@@ -14,10 +14,10 @@ use Rattle.base.proofs.WordsLaws.{u16_at_lt}
 use Rattle.lists.specs.Acl.{acl_end, scan_of}
 use Rattle.lists.proofs.AclSteps.{AclAt, acl_at}
 use Rattle.conditions.specs.Scanning.{is_broken}
-use Rattle.conditions.specs.declared.scan.Scan.{Scan}
-use Rattle.conditions.specs.declared.scan.Scan.TheVariants.{Broken, Plain}
+use Rattle.conditions.specs.Scanning.{Scan}
+use Rattle.conditions.specs.Scanning.Scan.{Broken, Plain}
 use Rattle.policy.specs.Policy.{section_at, section, bytes_of, acl_section, maybe_acl, no_rule, rule_of, rule_at}
-use Rattle.policy.specs.declared.sections.Section.{Section}
+use Rattle.lists.specs.declared.descriptor.Extent.{Extent as Section}
 use Rattle.policy.specs.declared.one_rule.Rule.{Rule}
 use Rattle.policy.proofs.OneRuleSteps.{applies_in, list_in, maybe_in, rule_applies, rule_dacl, rule_sacl, rule_staged}
 use Rattle.policy.proofs.OneRuleSteps.{rule_last, rule_whole}

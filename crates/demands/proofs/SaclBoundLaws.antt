@@ -30,7 +30,7 @@ use Rattle.policy.specs.Rules.{lists_of, rules_at, applies_to}
 use Rattle.audit.specs.Events.{other_spot, spot_at, audit_of, audits_at, audits_of, fires}
 use Rattle.audit.specs.Events.{Event, event, events_from, events_in, rule_events, rules_events}
 use Rattle.audit.specs.Trail.{event_bytes, trail_bytes}
-use Rattle.audit.specs.declared.entry.Spot.{Spot}
+use Rattle.audit.specs.Spot.{Spot}
 use Rattle.audit.specs.declared.firing.Sought.{Sought}
 use Rattle.demands.proofs.RuleSaclLaws.{SaclAt, rule_sacl_at, sacl_short}
 

@@ -11,8 +11,8 @@ use Rattle.base.proofs.BoolLaws.{true_false}
 use Rattle.conditions.specs.Condition.{shape}
 use Rattle.conditions.specs.Membership.{admits}
 use Rattle.conditions.proofs.MembershipLaws.{admits_none}
-use Rattle.conditions.specs.declared.scan.Scan.{Scan}
-use Rattle.conditions.specs.declared.scan.Scan.TheVariants.{Plain}
+use Rattle.conditions.specs.Scanning.{Scan}
+use Rattle.conditions.specs.Scanning.Scan.{Plain}
 use Rattle.lists.specs.Acl.{callback, scan_of, Entry, ace_at, condition_of, entry_of, entries_at, entries_of}
 use Rattle.lists.specs.Descriptor.{owner_of}
 use Rattle.lists.proofs.AclLaws.{All, judged_of, content_of_lem, entries_more, Plainly, plain_of_scan, plain_more}

@@ -19,8 +19,8 @@ use Rattle.base.proofs.BytesLaws.{length_part, bytes_part}
 use Rattle.base.proofs.WordsLaws.{u32_at_out}
 use Rattle.lists.specs.Descriptor as descriptor
 use Rattle.lists.specs.Descriptor.{heading, parts_of, sacl_of}
-use Rattle.lists.specs.declared.descriptor.Verdict.{Verdict}
-use Rattle.lists.specs.declared.descriptor.Verdict.TheVariants as verdict
+use Rattle.lists.specs.Descriptor.{Verdict}
+use Rattle.lists.specs.Descriptor.{Verdict as verdict}
 use Rattle.lists.proofs.DescriptorLaws.{parts_bounds, whole_heading}
 use Rattle.records.specs.Token.{Token}
 use Rattle.records.specs.Crowd.{Member}
@@ -31,8 +31,8 @@ use Rattle.passes.specs.declared.matching.Hits.{Hits}
 use Rattle.policy.specs.Policy as policy
 use Rattle.policy.specs.Policy.{rules_shaped, rules_unread, standing, standing_of}
 use Rattle.policy.specs.Rules.{rules_at, rules_of}
-use Rattle.policy.specs.declared.shape.Standing.{Standing}
-use Rattle.policy.specs.declared.shape.Standing.TheVariants.{Sound, Misshapen, Unread}
+use Rattle.policy.specs.Standing.{Standing}
+use Rattle.policy.specs.Standing.Standing.{Sound, Misshapen, Unread}
 use Rattle.audit.specs.Events.{events_in, rules_events, events_of}
 use Rattle.audit.specs.Trail.{trail_bytes}
 use Rattle.audit.specs.declared.firing.Sought.{Sought}

@@ -1,7 +1,7 @@
 -- Request 103's words: "Rules that apply to some callers".
 use Rattle.std.specs.Prelude.{ℕ, ◌≡◌, List, [], Bool, true, false}
 use Rattle.conditions.specs.Condition.{shape}
-use Rattle.conditions.specs.declared.scan.Scan.TheVariants.{Plain}
+use Rattle.conditions.specs.Scanning.Scan.{Plain}
 use Rattle.lists.specs.Acl.{callback, Entry}
 use Rattle.lists.specs.Descriptor.{owner_of}
 use Rattle.records.specs.Crowd.{crowd_of}

@@ -6,26 +6,13 @@
 ghost use Rattle.std.specs.Prelude.{◌<◌};
 
 use lists::{Ace, Extent};
-use reader::Step;
 use std::io;
-use testkit::{print, print_bytes, print_hex};
-
-// Writes an entry's type.
-fn kind(rt: &impl Print, k: u8) -> io::Result<()> {
-    if k == 0 {
-        return print(rt, b"  allow");
-    }
-    print(rt, b"  deny")
-}
+use testkit::{print, print_bytes};
 
 // Writes the line of an entry of the list.
 fn show(rt: &impl Print, list: &[u8], a: Ace) -> io::Result<()> {
-    kind(rt, a.kind)?;
-    print(rt, b" flags ")?;
-    print_hex(rt, base::wide(a.flags) as u64, 2)?;
-    print(rt, b" mask ")?;
-    print_hex(rt, a.mask.0 as u64, 8)?;
-    print(rt, b" sid ")?;
+    let kind = if a.kind == 0 { "allow" } else { "deny" };
+    print!(rt; "  {kind} flags {:02x} mask {:08x} sid ", a.flags, a.mask.0)?;
     let sid = lists::part(
         list,
         Extent {
@@ -44,14 +31,12 @@ fn listed(rt: &impl Print, name: &[u8], list: &[u8]) -> io::Result<()> {
     let own = reader::held(list);
     let mut at: usize = 8;
     let mut step = reader::first(list);
-    loop {
-        let Step::Entry(a) = step else {
-            return Ok(());
-        };
+    while let Some(a) = step {
         show(rt, own, a)?;
         step = reader::after(own, at);
         at = a.next;
     }
+    Ok(())
 }
 
 // Two entries of 16 bytes, allow 1 to S-1-5 at 8 and deny 2 to S-1-7 at 24 with flag 8, with

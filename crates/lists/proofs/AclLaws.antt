@@ -23,8 +23,8 @@ use Rattle.lists.specs.Acl.{acl_end, callback, named, entry_end, content_of, sha
 use Rattle.lists.specs.Acl.{entry_of}
 use Rattle.lists.specs.Acl.{entries_at, entries_of}
 use Rattle.lists.specs.declared.acl.Ace.{Ace}
-use Rattle.conditions.specs.declared.scan.Scan.{Scan}
-use Rattle.conditions.specs.declared.scan.Scan.TheVariants.{Broken, Foreign, Plain}
+use Rattle.conditions.specs.Scanning.{Scan}
+use Rattle.conditions.specs.Scanning.Scan.{Broken, Foreign, Plain}
 use Rattle.base.proofs.PartLaws.{byte_of_part, u16_of_part}
 use Rattle.sids.proofs.SidLaws.{sid_of_part}
 use Rattle.lists.proofs.AclSteps.{revised, AclAt, acl_at, acl_end_whole}

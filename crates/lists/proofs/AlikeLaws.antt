@@ -21,11 +21,11 @@ use Rattle.lists.specs.Acl.{entry_of}
 use Rattle.lists.specs.Acl.{entries_at, entries_of}
 use Rattle.lists.specs.Spare.{Agree, read_to, AgreeAll, SameButSpare}
 use Rattle.lists.specs.declared.acl.Ace.{Ace}
-use Rattle.conditions.specs.declared.scan.Scan.TheVariants.{Plain}
+use Rattle.conditions.specs.Scanning.Scan.{Plain}
 use Rattle.base.proofs.PartLaws.{byte_of_part}
 use Rattle.sids.proofs.SidLaws.{SidAt, sid_at, sid_end_whole}
 use Rattle.lists.proofs.AclSteps.{HeadAt, head_end_whole}
-use Rattle.lists.proofs.EntrySteps.{entry_end_is, entry_end_whole, entry_end_sid, found, ace_at_some}
+use Rattle.lists.proofs.EntrySteps.{entry_end_is, entry_end_whole, entry_end_sid, shown, ace_at_some}
 use Rattle.lists.proofs.AclLaws.{ace_found, entries_more, Content, judged_of, content_of_lem, Plainly, plain_of_scan, scan_of_plain}
 use Rattle.lists.proofs.AclLaws.{plain_more, plain_cons}
 use Rattle.lists.proofs.SpareLaws.{entry_head, AceLies, ace_bounds}
@@ -77,7 +77,7 @@ part_alike l m a e h p q g =
 -- the fields of an entry, one by one
 found_alike : (l m : List ℕ) (at : ℕ) → byte_at m at ≡ byte_at l at → byte_at m (at + 1) ≡ byte_at l (at + 1) →
     u32_at m (at + 4) ≡ u32_at l (at + 4) → sid_end m (at + 8) ≡ sid_end l (at + 8) → entry_end true m at ≡ entry_end true l at →
-    found m at ≡ found l at
+    shown m at ≡ shown l at
 found_alike l m at a b c d e =
     λ i. record { kind = a i; flags = b i; mask = record { 0 = c i }; from = at + 8; to = d i; next = e i }
 
@@ -111,7 +111,7 @@ module _ (l m : List ℕ) (at : ℕ)
       let a : AceLies l at = ace_bounds l at h in
       let f = ace_found l at h in
       let g = sid_alike in
-      let i : ace_at l at ≡ found l at = ace_at_some l at f.0 f.1 in
+      let i : ace_at l at ≡ shown l at = ace_at_some l at f.0 f.1 in
       let t : (ace_at l at).to ≡ sid_end l (at + 8) = ap (λ (x : Ace). x.to) i in
       let o : (ace_at l at).next ≡ entry_end true l at = ap (λ (x : Ace). x.next) i in
       let b : entry_end true l at ≡ head_end l at = entry_end_is true l at f.1 in

@@ -15,8 +15,8 @@ use Rattle.lists.specs.Acl.{head_end, named, entry_end, scan_of, Entry, no_ace, 
 use Rattle.lists.specs.ByLength.{ace_by_length, entries_by_length_at, entries_by_length}
 use Rattle.lists.specs.Descriptor.{parts_of, dacl_of}
 use Rattle.lists.specs.declared.acl.Ace.{Ace}
-use Rattle.conditions.specs.declared.scan.Scan.TheVariants.{Plain}
-use Rattle.lists.specs.declared.descriptor.Verdict.TheVariants.{Whole}
+use Rattle.conditions.specs.Scanning.Scan.{Plain}
+use Rattle.lists.specs.Descriptor.Verdict.{Whole}
 use Rattle.sids.proofs.SidLaws.{SidAt, sid_at}
 use Rattle.lists.proofs.AclSteps.{HeadAt, head_at}
 use Rattle.lists.proofs.EntrySteps.{entry_end_is, entry_end_bounds, entry_end_sid, entry_end_fits, ace_at_some}

@@ -9,7 +9,7 @@ use Rattle.base.specs.Bytes.{u16_at, u32_at}
 use Rattle.sids.specs.Sid.{sid_end}
 use Rattle.lists.specs.Acl.{acl_end, head_end, callback, named, audits, judges, holds, entry_end, content_of, shaped, foreign, scan_of, ace_at}
 use Rattle.lists.specs.Acl.{entries_at, entries_of}
-use Rattle.conditions.specs.declared.scan.Scan.TheVariants.{Broken, Foreign, Plain}
+use Rattle.conditions.specs.Scanning.Scan.{Broken, Foreign, Plain}
 use Rattle.lists.specs.Descriptor.{number_of, heading, sid_piece, acl_piece, judged, parts_of, owner_of, group_of, sacl_of, dacl_of}
 
 -- "U is S-1-5-0-7, W is S-1-5-7"

@@ -18,11 +18,11 @@ use Rattle.lists.specs.Acl.{acl_end, scanned, scan_of}
 use Rattle.lists.specs.Descriptor.{heading, bad, absent, alien, start_of, end_of, place_of, Inside}
 use Rattle.lists.specs.Descriptor.{owner_piece, group_piece, sacl_piece, dacl_piece, refused_parts, whole_parts, judged, parts_of}
 use Rattle.lists.specs.Descriptor.{owner_of, group_of, sacl_of, dacl_of}
-use Rattle.conditions.specs.declared.scan.Scan.TheVariants.{Plain}
+use Rattle.conditions.specs.Scanning.Scan.{Plain}
 use Rattle.lists.specs.declared.descriptor.Extent.{Extent}
-use Rattle.lists.specs.declared.descriptor.Piece.{Piece}
-use Rattle.lists.specs.declared.descriptor.Verdict.TheVariants.{Whole, Misshapen, Ownerless, ForeignEntry}
-use Rattle.lists.specs.declared.descriptor.Parts.{Parts}
+use Rattle.lists.specs.Descriptor.{Piece}
+use Rattle.lists.specs.Descriptor.Verdict.{Whole, Misshapen, Ownerless, ForeignEntry}
+use Rattle.lists.specs.Descriptor.{Parts}
 use Rattle.sids.proofs.SidLaws.{sid_of_part}
 use Rattle.lists.proofs.DescriptorSteps.{judged_whole, parts_refused, parts_judged, refused_inside, judged_inside}
 use Rattle.lists.proofs.PieceLaws.{SidPiece, sid_piece_cases, sid_piece_within, acl_piece_within}

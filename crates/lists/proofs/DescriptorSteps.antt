@@ -3,7 +3,7 @@
 -- (judged-..), the whole (parts-..), the bytes of an extent (part-in-..).
 -- Not here: what an accepted descriptor is, DescriptorLaws. Assumes nothing.
 use Prim.Native.Nat.{ℕ, ◌<◌, ◌≤◌}
-use mathlib.Core.Path.{◌≡◌, refl, sym, ap, ◌∙◌}
+use mathlib.Core.Path.{◌≡◌, refl}
 use mathlib.Core.List.{List, []}
 use mathlib.Core.Bool.{Bool, true, false, cond}
 use native.Mathlib.Omega.{arith}
@@ -16,12 +16,10 @@ use Rattle.lists.specs.Acl.{acl_end, scan_of}
 use Rattle.lists.specs.Descriptor.{heading, sid_piece, acl_piece, piece_of, bad, absent, alien, place_of}
 use Rattle.lists.specs.Descriptor.{owner_piece, group_piece, sacl_piece, dacl_piece}
 use Rattle.lists.specs.Descriptor.{refused_parts, whole_parts, judged, parts_of, LiesIn, Inside, part_in}
-use Rattle.lists.specs.declared.descriptor.Extent.{Extent}
-use Rattle.lists.specs.declared.descriptor.Piece.{Piece}
-use Rattle.lists.specs.declared.descriptor.Piece.TheVariants.{Bad, Absent, At}
-use Rattle.lists.specs.declared.descriptor.Verdict.{Verdict}
-use Rattle.lists.specs.declared.descriptor.Verdict.TheVariants.{Whole, Misshapen, Ownerless, ForeignEntry}
-use Rattle.lists.specs.declared.descriptor.Parts.{Parts}
+use Rattle.lists.specs.Descriptor.{Piece}
+use Rattle.lists.specs.Descriptor.Piece.{Bad, Absent, At}
+use Rattle.lists.specs.Descriptor.{Verdict}
+use Rattle.lists.specs.Descriptor.Verdict.{Misshapen, Ownerless, ForeignEntry}
 
 -- ---- the heading
 
@@ -113,12 +111,6 @@ module _ (o g s a : Piece) where
     unfolding judged
     judged_whole h5 h6 = rw (h1, h2, h3, h4, h5, h6)
 
--- the whole, from what the code read of it
-pub whole_made : (o g s a : Piece) (n : Bool) (x y z w : Extent) →
-    n ≡ absent a → x ≡ place_of o → y ≡ place_of g → z ≡ place_of s → w ≡ place_of a →
-    ◌≡◌ {A = Parts} (record { verdict = Whole; null = n; owner = x; group = y; sacl = z; dacl = w }) (whole_parts o g s a)
-whole_made o g s a n x y z w e1 e2 e3 e4 e5 = rw (e1, e2, e3, e4, e5)
-
 -- ---- the whole
 
 pub parts_refused : (d : List ℕ) → heading d ≡ false → parts_of d ≡ refused_parts Misshapen
@@ -128,11 +120,6 @@ parts_refused d h = rw h
 pub parts_judged : (d : List ℕ) → heading d ≡ true → parts_of d ≡ judged (owner_piece d) (group_piece d) (sacl_piece d) (dacl_piece d)
 unfolding parts_of
 parts_judged d h = rw h
-
--- the same, from what the code read of it
-pub parts_read : (d : List ℕ) (o g s a : Piece) → heading d ≡ true →
-    o ≡ owner_piece d → g ≡ group_piece d → s ≡ sacl_piece d → a ≡ dacl_piece d → judged o g s a ≡ parts_of d
-parts_read d o g s a h e1 e2 e3 e4 = rw (e1, e2, e3, e4) (sym (parts_judged d h))
 
 -- ---- each part lies inside
 
@@ -176,9 +163,3 @@ module _ (d : List ℕ) (a e : ℕ) where
   pub part_in_inside : a ≤ e → e ≤ length d → part_in d a e ≡ part d a e
   unfolding part_in
   part_in_inside l h = rw (le-ltb e a l, le-ltb (length d) e h)
-
--- a part that is handed out, by the extent that the reading gives it
-pub part_handed : (d l : List ℕ) (p : Parts) (x : Parts → Extent) →
-    l ≡ part_in d (x p).from (x p).to → LiesIn (length d) (x p) → p ≡ parts_of d → l ≡ part d (x (parts_of d)).from (x (parts_of d)).to
-part_handed d l p x e w q =
-    e ∙ part_in_inside d (x p).from (x p).to w.0 w.1 ∙ ap (λ (r : Parts). part d (x r).from (x r).to) q

@@ -1,7 +1,7 @@
 -- What an entry is, and what all are, by each test in its order. For `holds`, `entry_end`, `content`, `scan_all` and
 -- `ace_at`.
 -- In order: an entry's body (holds-..), the whole entry (entry-end-..; judged-.. in a DACL or SACL), the walk over all entries (Left,
--- scan-..), what an entry holds (content-..), the entry that the code reads (found, ace-at-..).
+-- scan-..), what an entry holds (content-..), the entry that the code reads (stands-.., shown, ace-at-..).
 -- Not here: headings, AclSteps; what an accepted list is, AclLaws. Assumes nothing.
 use Prim.Native.Nat.{ℕ, suc, ◌+◌, ◌-◌, ◌*◌, ◌<◌, ◌≤◌}
 use mathlib.Core.Path.{◌≡◌, refl, sym, ap, ◌∙◌}
@@ -11,15 +11,19 @@ use native.Mathlib.Omega.{arith}
 use lib.Dec.{eqb, leb}
 use lib.ListN.{length}
 use borrow.Author.Tests.{eq-eqb, ne_eqb, eqb-true, eqb-false, le-leb, lt-leb, leb-true, leb-false}
-use Rattle.base.specs.Bytes.{byte_at, u16_at, u32_at, part}
+use Rattle.base.specs.Bytes.{byte_at, u16_at, u32_at, part, found}
+use Rattle.base.proofs.FoundLaws.{found_at, place_found}
 use Rattle.sids.specs.Sid.{sid_end}
-use Rattle.conditions.specs.Scanning.{is_broken, is_foreign}
+use Rattle.std.specs.Prelude.{Option, None, Some, IsSome, Ok, Err}
+use Rattle.conditions.specs.Scanning.{is_broken, is_foreign, scan_result}
+use Rattle.conditions.specs.declared.fault.Fault.{Fault}
+use Rattle.conditions.specs.declared.fault.Fault.TheVariants as fault
 use Rattle.conditions.specs.Condition.{shape}
 use Rattle.lists.specs.Acl.{head_end, callback, named, audits, judges, fitting, holds, entry_end, content_of, shaped, foreign}
-use Rattle.lists.specs.Acl.{scanned, scan_of, no_ace, ace_at}
+use Rattle.lists.specs.Acl.{scanned, scan_of, no_ace, ace_at, stands}
 use Rattle.lists.specs.declared.acl.Ace.{Ace}
-use Rattle.conditions.specs.declared.scan.Scan.{Scan}
-use Rattle.conditions.specs.declared.scan.Scan.TheVariants.{Broken, Foreign, Plain}
+use Rattle.conditions.specs.Scanning.{Scan}
+use Rattle.conditions.specs.Scanning.Scan.{Broken, Foreign, Plain}
 use Rattle.sids.proofs.SidLaws.{sid_end_other, sid_end_many, sid_end_cut, sid_end_whole, sid_end_bounds}
 use Rattle.lists.proofs.AclSteps.{head_end_bounds}
 use Rattle.lists.proofs.TypeLaws.{judges_deep, judges_shallow}
@@ -201,6 +205,25 @@ module _ (deep : Bool) (l : List ℕ) (met : Bool) (m k at : ℕ) where
         go false true r = refl
         go false false r = refl
 
+    -- by what the entry holds: what the code has met after it
+    pub scan_plain : k < m → content_of deep l at to ≡ Plain → Left deep l met (m - k) at ≡ Left deep l met (m - (k + 1)) to
+    scan_plain h c =
+        scan_more h (ap is_broken c)
+        ∙ ap (λ (t : Bool). Left deep l t (m - (k + 1)) to) (ap (λ (v : Scan). met || is_foreign v) c ∙ go met)
+      where
+        go : (t : Bool) → (t || false) ≡ t
+        go true = refl
+        go false = refl
+
+    pub scan_alien : k < m → content_of deep l at to ≡ Foreign → Left deep l met (m - k) at ≡ Left deep l true (m - (k + 1)) to
+    scan_alien h c =
+        scan_more h (ap is_broken c)
+        ∙ ap (λ (t : Bool). Left deep l t (m - (k + 1)) to) (ap (λ (v : Scan). met || is_foreign v) c ∙ go met)
+      where
+        go : (t : Bool) → (t || true) ≡ true
+        go true = refl
+        go false = refl
+
 -- ---- what an entry holds
 
 module _ (deep : Bool) (l : List ℕ) (at e : ℕ) where
@@ -225,7 +248,52 @@ pub content_condition : (l : List ℕ) (at e : ℕ) → named (byte_at l at) ≡
 unfolding content_of
 content_condition l at e n c = rw (n, c)
 
+-- a place that the code answers, where one is
+pub some_found : (n : ℕ) (r : Option ℕ) → r ≡ found n → (n ≡ 0 → ⊥) → IsSome r
+some_found n r e h = rw (e, sym (found_at n n refl h)) refl
+
+pub unwrapped : (n : ℕ) (r : Option ℕ) (k : ℕ) → r ≡ found n → r ≡ Some k → k ≡ n
+unwrapped n r k e u = sym (place_found n k (sym u ∙ e)).is
+
+-- what the code's answer says of it
+pub content_broken : (v : Scan) (f : Fault) → f ≡ fault.Broken → Err f ≡ scan_result v → v ≡ Broken
+content_broken Broken f e q = refl
+content_broken Foreign f e q = absurd (cc)
+content_broken Plain f e q = absurd (cc)
+
+pub content_other : (v : Scan) (f : Fault) → f ≡ fault.Foreign → Err f ≡ scan_result v → v ≡ Foreign
+content_other Broken f e q = absurd (cc)
+content_other Foreign f e q = refl
+content_other Plain f e q = absurd (cc)
+
+pub content_fine : (v : Scan) (u : Unit) → Ok u ≡ scan_result v → v ≡ Plain
+content_fine Broken u q = absurd (cc)
+content_fine Foreign u q = absurd (cc)
+content_fine Plain u q = refl
+
 -- ---- the entry that the code reads
+
+pub stands_none : (a : Ace) → a ≡ no_ace → None ≡ stands a
+stands_none a e = rw e
+
+pub stands_some : (a b : Ace) → a ≡ b → (a.next ≡ 0 → ⊥) → Some a ≡ stands b
+stands_some a b e h =
+    let s : Some a ≡ stands a = rw (ne_eqb a.next 0 h) in
+    s ∙ ap stands e
+
+pub stands_not : (a : Ace) → None ≡ stands a → a.next ≡ 0
+stands_not a q = go (eqb a.next 0) refl q
+  where
+    go : (t : Bool) → eqb a.next 0 ≡ t → None ≡ cond t None (Some a) → a.next ≡ 0
+    go true e q = eqb-true _ _ e
+    go false e q = absurd (cc)
+
+pub stands_is : (a b : Ace) → Some a ≡ stands b → (a ≡ b) × (b.next ≡ 0 → ⊥)
+stands_is a b q = go (eqb b.next 0) refl q
+  where
+    go : (t : Bool) → eqb b.next 0 ≡ t → Some a ≡ cond t None (Some b) → (a ≡ b) × (b.next ≡ 0 → ⊥)
+    go true e q = absurd (cc)
+    go false e q = (cc, eqb-false _ _ e)
 
 module _ (l : List ℕ) (at : ℕ) where
   pub ace_at_none : entry_end true l at ≡ 0 → ace_at l at ≡ no_ace
@@ -241,8 +309,8 @@ module _ (l : List ℕ) (at : ℕ) where
   ace_at_foreign h = rw h
 
   -- the entry where one stands
-  abbrev pub found : Ace
-  found =
+  abbrev pub shown : Ace
+  shown =
       record {
         kind = byte_at l at;
         flags = byte_at l (at + 1);
@@ -252,7 +320,7 @@ module _ (l : List ℕ) (at : ℕ) where
         next = entry_end true l at;
       }
 
-  pub ace_at_some : named (byte_at l at) ≡ true → (entry_end true l at ≡ 0 → ⊥) → ace_at l at ≡ found
+  pub ace_at_some : named (byte_at l at) ≡ true → (entry_end true l at ≡ 0 → ⊥) → ace_at l at ≡ shown
   unfolding ace_at
   ace_at_some n h = rw (n, ne_eqb (entry_end true l at) 0 h)
 

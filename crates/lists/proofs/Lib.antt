@@ -10,4 +10,5 @@ pub mod AlikeLaws
 pub mod DescriptorSteps
 pub mod PieceLaws
 pub mod DescriptorLaws
+pub mod HandedLaws
 mod Cases

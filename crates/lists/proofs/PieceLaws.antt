@@ -15,11 +15,10 @@ use Rattle.base.proofs.BytesLaws.{part_empty}
 use Rattle.sids.specs.Sid.{sid_end}
 use Rattle.lists.specs.Acl.{acl_end, scanned, scan_of}
 use Rattle.lists.specs.Descriptor.{sid_piece, acl_piece, piece_of, bad, absent, alien, start_of, end_of, place_of, LiesIn}
-use Rattle.conditions.specs.declared.scan.Scan as scan
-use Rattle.conditions.specs.declared.scan.Scan.{Scan}
-use Rattle.conditions.specs.declared.scan.Scan.TheVariants.{Plain}
-use Rattle.lists.specs.declared.descriptor.Piece.{Piece}
-use Rattle.lists.specs.declared.descriptor.Piece.TheVariants.{Bad, Absent, At, Alien}
+use Rattle.conditions.specs.Scanning.{Scan as scan}
+use Rattle.conditions.specs.Scanning.{Scan}
+use Rattle.lists.specs.Descriptor.{Piece}
+use Rattle.lists.specs.Descriptor.Piece.{Bad, Absent, At, Alien}
 use Rattle.sids.proofs.SidLaws.{sid_end_bounds}
 use Rattle.lists.proofs.AclSteps.{acl_end_bounds}
 use Rattle.lists.proofs.AclLaws.{acl_of_part}
@@ -75,9 +74,9 @@ pub acl_piece_within : (deep : Bool) (d : List ℕ) (followed : Bool) (off : ℕ
 acl_piece_within deep d followed off = go (acl_piece_cases deep d followed off)
   where
     of : (s : Scan) → (acl_end d off ≡ 0 → ⊥) → LiesIn (length d) (place_of (piece_of off (acl_end d off) s))
-    of scan.TheVariants.Broken h = (omega arith, omega arith)
-    of scan.TheVariants.Foreign h = let b = acl_end_bounds d off h in (omega (arith, b.0), omega (arith, b.1))
-    of scan.TheVariants.Plain h = let b = acl_end_bounds d off h in (omega (arith, b.0), omega (arith, b.1))
+    of scan.Broken h = (omega arith, omega arith)
+    of scan.Foreign h = let b = acl_end_bounds d off h in (omega (arith, b.0), omega (arith, b.1))
+    of scan.Plain h = let b = acl_end_bounds d off h in (omega (arith, b.0), omega (arith, b.1))
 
     go : AclPiece deep d followed off → LiesIn (length d) (place_of (acl_piece deep d followed off))
     go (misshapen e) = rw e (omega arith, omega arith)
@@ -98,9 +97,9 @@ piece_listed deep d followed off p q h k = go (acl_piece_cases deep d followed o
     of : (s : Scan) → scan_of deep (part d off (acl_end d off)) ≡ s → (acl_end d off ≡ 0 → ⊥) → (r : Piece) →
         r ≡ piece_of off (acl_end d off) s →
         bad r ≡ false → Listed deep (part d (start_of r) (end_of r)) (alien r)
-    of scan.TheVariants.Broken e n r f u = let v = sym (ap bad f) ∙ u in let z : ◌≡◌ {A = ℕ} 0 1 = cc in absurd (omega arith)
-    of scan.TheVariants.Foreign e n r f u = rw f (record { ends = acl_of_part d off (acl_end d off) refl n; told = e })
-    of scan.TheVariants.Plain e n r f u = rw f (record { ends = acl_of_part d off (acl_end d off) refl n; told = e })
+    of scan.Broken e n r f u = let v = sym (ap bad f) ∙ u in let z : ◌≡◌ {A = ℕ} 0 1 = cc in absurd (omega arith)
+    of scan.Foreign e n r f u = rw f (record { ends = acl_of_part d off (acl_end d off) refl n; told = e })
+    of scan.Plain e n r f u = rw f (record { ends = acl_of_part d off (acl_end d off) refl n; told = e })
 
     go : AclPiece deep d followed off → Listed deep (part d (start_of p) (end_of p)) (alien p)
     go (misshapen e) = let v = sym (ap bad (sym q ∙ e)) ∙ h in let z : ◌≡◌ {A = ℕ} 0 1 = cc in absurd (omega arith)

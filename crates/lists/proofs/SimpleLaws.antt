@@ -11,7 +11,7 @@ use Rattle.base.specs.Bytes.{byte_at, u16_at}
 use Rattle.base.proofs.BoolLaws.{true_false}
 use Rattle.lists.specs.Acl.{head_end, entry_end, content_of, shaped, foreign, scan_of}
 use Rattle.lists.specs.Simple.{fits_as, simple_at, simple}
-use Rattle.conditions.specs.declared.scan.Scan.TheVariants.{Plain}
+use Rattle.conditions.specs.Scanning.Scan.{Plain}
 use Rattle.lists.proofs.TypeLaws.{callback_low, named_low, audits_low}
 use Rattle.lists.proofs.EntrySteps.{entry_end_shallow, entry_end_named, content_plain}
 

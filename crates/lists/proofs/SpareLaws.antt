@@ -15,13 +15,13 @@ use Rattle.sids.specs.Sid.{sid_end}
 use Rattle.lists.specs.Acl.{callback, head_end, named, audits, judges, entry_end, scan_of, Entry, ace_at, entry_of, entries_at, entries_of}
 use Rattle.lists.specs.Spare.{LongEnough, said_at, read_to}
 use Rattle.lists.specs.declared.acl.Ace.{Ace}
-use Rattle.conditions.specs.declared.scan.Scan.TheVariants.{Plain}
+use Rattle.conditions.specs.Scanning.Scan.{Plain}
 use Rattle.sids.proofs.SidLaws.{sid_end_bounds}
 use Rattle.lists.proofs.AclSteps.{HeadAt, head_at, head_end_short, head_end_whole}
 use Rattle.lists.proofs.TypeLaws.{judges_deep, judges_shallow}
 use Rattle.lists.proofs.EntrySteps.{holds_inside, entry_end_none, entry_end_is, entry_end_judged, entry_end_bounds, judged_sid, judged_fits}
 use Rattle.lists.proofs.EntrySteps.{entry_end_sid, entry_end_fits}
-use Rattle.lists.proofs.EntrySteps.{found, ace_at_none, ace_at_some}
+use Rattle.lists.proofs.EntrySteps.{shown, ace_at_none, ace_at_some}
 use Rattle.lists.proofs.AclLaws.{ace_found, entries_more, Plainly, plain_of_scan, plain_more}
 
 -- ---- which entries are well shaped, and where the next one begins
@@ -77,7 +77,7 @@ pub record AceLies (l : List ℕ) (at : ℕ) : Type 0 where
 pub ace_bounds : (l : List ℕ) (at : ℕ) → ((ace_at l at).next ≡ 0 → ⊥) → AceLies l at
 ace_bounds l at h =
     let f = ace_found l at h in
-    let i : ace_at l at ≡ found l at = ace_at_some l at f.0 f.1 in
+    let i : ace_at l at ≡ shown l at = ace_at_some l at f.0 f.1 in
     let t : (ace_at l at).to ≡ sid_end l (at + 8) = ap (λ (x : Ace). x.to) i in
     let n : (ace_at l at).next ≡ entry_end true l at = ap (λ (x : Ace). x.next) i in
     let s = sid_end_bounds l (at + 8) (entry_end_sid l at f.0 f.1) in

@@ -1,12 +1,12 @@
 -- "ACL: revision 2 or 4, a byte, size u16, count u16, two bytes. Size is at least 8 and fits. The entries follow back to back."
-use Rattle.std.specs.Prelude.{ℕ, zero, suc, ◌+◌, ◌%◌, List, [], ◌∷◌, Bool, true, false, cond, ◌&&◌, ◌||◌, length, ltb, leb, eqb}
+use Rattle.std.specs.Prelude.{ℕ, zero, suc, ◌+◌, ◌%◌, List, [], ◌∷◌, Bool, true, false, cond, ◌&&◌, ◌||◌, length, ltb, leb, eqb, Option, None, Some}
 use Rattle.base.specs.Bytes.{byte_at, u16_at, u32_at, part}
 use Rattle.sids.specs.Sid.{sid_end}
 use Rattle.conditions.specs.Scanning.{is_broken, is_foreign}
 use Rattle.conditions.specs.Condition.{shape}
 use Rattle.lists.specs.declared.acl.Ace.{Ace}
-use Rattle.conditions.specs.declared.scan.Scan.{Scan}
-use Rattle.conditions.specs.declared.scan.Scan.TheVariants.{Broken, Foreign, Plain}
+use Rattle.conditions.specs.Scanning.{Scan}
+use Rattle.conditions.specs.Scanning.Scan.{Broken, Foreign, Plain}
 
 -- ---- the list
 
@@ -108,6 +108,10 @@ pub record Entry : Type 0 where
 -- the entry as the code reads it: where its SID stands, and the place after the entry; all 0 where no entry with a SID stands
 abbrev pub no_ace : Ace
 no_ace = record { kind = 0; flags = 0; mask = record { 0 = 0 }; from = 0; to = 0; next = 0 }
+
+-- what the code answers: the entry, or none
+abbrev pub stands : Ace → Option Ace
+stands a = cond (eqb a.next 0) None (Some a)
 
 unfoldable pub ace_at : List ℕ → ℕ → Ace
 ace_at l at =

@@ -4,14 +4,32 @@ use Rattle.base.specs.Bytes.{byte_at, u16_at, u32_at, part}
 use Rattle.base.specs.Bits.{has}
 use Rattle.sids.specs.Sid.{sid_end}
 use Rattle.lists.specs.Acl.{acl_end, scan_of}
-use Rattle.conditions.specs.declared.scan.Scan as scan
-use Rattle.conditions.specs.declared.scan.Scan.{Scan}
-use Rattle.lists.specs.declared.descriptor.Piece.{Piece}
-use Rattle.lists.specs.declared.descriptor.Piece.TheVariants.{Bad, Absent, At, Alien}
-use Rattle.lists.specs.declared.descriptor.Verdict.{Verdict}
-use Rattle.lists.specs.declared.descriptor.Verdict.TheVariants.{Whole, Misshapen, Ownerless, ForeignEntry}
+use Rattle.conditions.specs.Scanning.{Scan as scan}
+use Rattle.conditions.specs.Scanning.{Scan}
 use Rattle.lists.specs.declared.descriptor.Extent.{Extent}
-use Rattle.lists.specs.declared.descriptor.Parts.{Parts}
+
+-- what a descriptor is
+pub data Verdict : Type 0 where
+  Whole : Verdict
+  Misshapen : Verdict
+  Ownerless : Verdict
+  ForeignEntry : Verdict
+
+-- a part that an offset names: misshapen, not there, there from a place to another, or a list with something foreign
+pub data Piece : Type 0 where
+  Bad : Piece
+  Absent : Piece
+  At : ℕ → ℕ → Piece
+  Alien : ℕ → ℕ → Piece
+
+-- the verdict and where each part stands; null: the DACL is absent
+pub record Parts : Type 0 where
+  pub verdict : Verdict
+  pub null : Bool
+  pub owner : Extent
+  pub group : Extent
+  pub sacl : Extent
+  pub dacl : Extent
 
 -- the page's number for each verdict
 unfoldable pub number_of : Verdict → ℕ
@@ -34,9 +52,9 @@ sid_piece d off =
     cond (eqb off 0) Absent (cond (ltb off 20) Bad (cond (eqb e 0) Bad (At off e)))
 
 abbrev pub piece_of : ℕ → ℕ → Scan → Piece
-piece_of a e scan.TheVariants.Broken = Bad
-piece_of a e scan.TheVariants.Foreign = Alien a e
-piece_of a e scan.TheVariants.Plain = At a e
+piece_of a e scan.Broken = Bad
+piece_of a e scan.Foreign = Alien a e
+piece_of a e scan.Plain = At a e
 
 -- "Bit 0x0004 clear: null DACL, offset not followed. Set: the offset is at least 20 and points at an ACL.
 -- Bit 0x0010 likewise for the SACL."

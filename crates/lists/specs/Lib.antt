@@ -5,6 +5,8 @@ pub mod Acl
 pub mod Spare
 -- the self-relative descriptor, its parts and its numbers 6, 7 and 8
 pub mod Descriptor
+-- how the code answers of it
+pub mod Handed
 -- how the code goes about it: a list of types 0 and 1 alone; a judged list walked once more, by lengths
 pub mod Simple
 pub mod ByLength

@@ -1,30 +1,19 @@
-// The self-relative descriptor: its shape, its verdict, and its parts as the very bytes lent.
-ghost use Rattle.std.specs.Prelude.{◌≡◌, ◌≤◌, length};
-ghost use Rattle.lists.specs.Descriptor.{heading, sid_piece, acl_piece, judged};
-ghost use Rattle.lists.specs.Descriptor.{bad, absent, alien, start_of, end_of, place_of};
-ghost use Rattle.lists.specs.Descriptor.{refused_parts, Inside, parts_of, part_in};
-ghost use Rattle.lists.specs.Descriptor.{owner_of, group_of, sacl_of, dacl_of};
+// The self-relative descriptor: its shape, and its parts as the very bytes lent.
+ghost use Rattle.std.specs.Prelude.{◌≡◌, length, Ok, IfOk};
+ghost use Rattle.lists.specs.Descriptor.{Piece, heading, sid_piece, acl_piece, judged, parts_of};
+ghost use Rattle.lists.specs.Descriptor.{owner_of, group_of, sacl_of, dacl_of, part_in};
+ghost use Rattle.lists.specs.Handed.{piece_result, place_in, alien_in, handed, Within, bytes_of};
 
 use crate::acl::{acl_end, scan_entries};
-use conditions::Scan;
+use conditions::Fault;
 use sids::sid_end;
 
-// What a descriptor is; the page's numbers are 0, 6, 7 and 8.
-#[derive(Clone, Copy)]
-pub enum Verdict {
-    Whole,
+// Why a descriptor is refused; the page's numbers are 6, 7 and 8.
+#[derive(Clone, Copy, PartialEq, Eq)]
+pub enum Refusal {
     Misshapen,
     Ownerless,
     ForeignEntry,
-}
-
-// A part that an offset names: misshapen, not there, there, or a list with something foreign.
-#[derive(Clone, Copy)]
-pub enum Piece {
-    Bad,
-    Absent,
-    At(usize, usize),
-    Alien(usize, usize),
 }
 
 // From a place up to another; empty where both are 0.
@@ -34,15 +23,42 @@ pub struct Extent {
     pub to: usize,
 }
 
-// The verdict and where each part stands. `null`: the DACL is absent. A refusal has empty parts.
+impl Extent {
+    // Its bytes, or none where it does not lie inside.
+    pub fn bytes<'a>(self, d: &'a [u8]) -> &'a [u8]
+        ensures { result.now ≡ part_in d.now self.from self.to }
+    {
+        if self.to < self.from || d.len() < self.to {
+            return &d[0..0];
+        }
+        &d[self.from..self.to]
+    }
+}
+
+// Where each part of a descriptor stands. `null`: the DACL is absent.
 #[derive(Clone, Copy)]
-pub struct Parts {
-    pub verdict: Verdict,
+pub struct Descriptor {
     pub null: bool,
     pub owner: Extent,
     pub group: Extent,
     pub sacl: Extent,
     pub dacl: Extent,
+}
+
+// One of the four parts.
+#[derive(Clone, Copy)]
+enum Which {
+    Owner,
+    Group,
+    Sacl,
+    Dacl,
+}
+
+// A part that an offset names: where it stands, and whether it is a list with something foreign.
+#[derive(Clone, Copy)]
+struct Found {
+    place: Extent,
+    alien: bool,
 }
 
 // "20 to 65,535 bytes; revision 1; control bit 0x8000 set"
@@ -61,175 +77,106 @@ fn heading(d: &[u8]) -> bool
     base::u16_at(d, 2) & 0x8000 != 0
 }
 
-// The identity that an offset names.
-fn sid_piece(d: &[u8], off: usize) -> Piece
-    ensures value { result ≡ sid_piece d.now off }
-    ensures result_bound { (start_of result ≤ end_of result) × (end_of result ≤ length d.now) }
+// The identity that an offset names, if it names one.
+fn sid_piece(d: &[u8], off: usize) -> Result<Option<Found>, Refusal>
+    ensures { result ≡ piece_result (sid_piece d.now off) }
 {
     if off == 0 {
-        return Piece::Absent;
+        return Ok(None);
     }
     if off < 20 {
-        return Piece::Bad;
+        return Err(Refusal::Misshapen);
     }
-    let e = sid_end(d, off);
-    if e == 0 {
-        return Piece::Bad;
-    }
-    Piece::At(off, e)
+    let Some(to) = sid_end(d, off) else {
+        return Err(Refusal::Misshapen);
+    };
+    Ok(Some(Found {
+        place: Extent { from: off, to },
+        alien: false,
+    }))
 }
 
 // The list that an offset names, where it is to be followed; deep in a DACL.
-fn acl_piece(d: &[u8], followed: bool, at: usize, deep: bool) -> Piece
-    ensures value { result ≡ acl_piece deep d.now followed at }
-    ensures result_bound { (start_of result ≤ end_of result) × (end_of result ≤ length d.now) }
+fn acl_piece(d: &[u8], followed: bool, at: usize, deep: bool) -> Result<Option<Found>, Refusal>
+    ensures { result ≡ piece_result (acl_piece deep d.now followed at) }
 {
     if !followed {
-        return Piece::Absent;
+        return Ok(None);
     }
     if at < 20 {
-        return Piece::Bad;
+        return Err(Refusal::Misshapen);
     }
-    let e = acl_end(d, at);
-    if e == 0 {
-        return Piece::Bad;
-    }
-    match scan_entries(&d[at..e], deep) {
-        Scan::Broken => Piece::Bad,
-        Scan::Foreign => Piece::Alien(at, e),
-        Scan::Plain => Piece::At(at, e),
-    }
-}
-
-fn is_bad(p: Piece) -> bool
-    ensures { result ≡ bad p }
-{
-    match p {
-        Piece::Bad => true,
-        Piece::Absent => false,
-        Piece::At(_, _) => false,
-        Piece::Alien(_, _) => false,
+    let Some(to) = acl_end(d, at) else {
+        return Err(Refusal::Misshapen);
+    };
+    let place = Extent { from: at, to };
+    match scan_entries(&d[at..to], deep) {
+        Ok(()) => Ok(Some(Found {
+            place,
+            alien: false,
+        })),
+        Err(Fault::Foreign) => Ok(Some(Found { place, alien: true })),
+        Err(Fault::Broken) => Err(Refusal::Misshapen),
     }
 }
 
-fn is_absent(p: Piece) -> bool
-    ensures { result ≡ absent p }
+// Where a part stands; empty where it is absent.
+fn place_of(p: Option<Found>) -> Extent
+    ensures { result ≡ place_in p }
 {
-    match p {
-        Piece::Bad => false,
-        Piece::Absent => true,
-        Piece::At(_, _) => false,
-        Piece::Alien(_, _) => false,
-    }
+    p.map_or(Extent { from: 0, to: 0 }, |f| f.place)
 }
 
-fn is_alien(p: Piece) -> bool
-    ensures { result ≡ alien p }
+// Whether a part is a list with something foreign.
+fn is_alien(p: Option<Found>) -> bool
+    ensures { result ≡ alien_in p }
 {
-    match p {
-        Piece::Bad => false,
-        Piece::Absent => false,
-        Piece::At(_, _) => false,
-        Piece::Alien(_, _) => true,
-    }
+    p.is_some_and(|f| f.alien)
 }
 
-fn start_of(p: Piece) -> usize
-    ensures { result ≡ start_of p }
+// What the four parts come to.
+fn judged(
+    o: Option<Found>,
+    g: Option<Found>,
+    s: Option<Found>,
+    a: Option<Found>,
+) -> Result<Descriptor, Refusal>
+    ensures { (x y z w : Piece) → Ok o ≡ piece_result x → Ok g ≡ piece_result y
+        → Ok s ≡ piece_result z → Ok a ≡ piece_result w → result ≡ handed (judged x y z w) }
 {
-    match p {
-        Piece::Bad => 0,
-        Piece::Absent => 0,
-        Piece::At(a, _) => a,
-        Piece::Alien(a, _) => a,
-    }
-}
-
-fn end_of(p: Piece) -> usize
-    ensures { result ≡ end_of p }
-{
-    match p {
-        Piece::Bad => 0,
-        Piece::Absent => 0,
-        Piece::At(_, e) => e,
-        Piece::Alien(_, e) => e,
-    }
-}
-
-// Where a piece stands.
-fn place_of(p: Piece) -> Extent
-    ensures { result ≡ place_of p }
-{
-    Extent {
-        from: start_of(p),
-        to: end_of(p),
-    }
-}
-
-// A refusal: every part is empty.
-fn refused(v: Verdict) -> Parts
-    ensures { result ≡ refused_parts v }
-{
-    Parts {
-        verdict: v,
-        null: false,
-        owner: Extent { from: 0, to: 0 },
-        group: Extent { from: 0, to: 0 },
-        sacl: Extent { from: 0, to: 0 },
-        dacl: Extent { from: 0, to: 0 },
-    }
-}
-
-// What the four pieces come to.
-fn judged(o: Piece, g: Piece, s: Piece, a: Piece) -> Parts
-    ensures { result ≡ judged o g s a }
-{
-    if is_bad(o) {
-        return refused(Verdict::Misshapen);
-    }
-    if is_bad(g) {
-        return refused(Verdict::Misshapen);
-    }
-    if is_bad(s) {
-        return refused(Verdict::Misshapen);
-    }
-    if is_bad(a) {
-        return refused(Verdict::Misshapen);
-    }
-    if is_absent(o) {
-        return refused(Verdict::Ownerless);
-    }
+    let Some(owner) = o else {
+        return Err(Refusal::Ownerless);
+    };
     if is_alien(a) {
-        return refused(Verdict::ForeignEntry);
+        return Err(Refusal::ForeignEntry);
     }
-    Parts {
-        verdict: Verdict::Whole,
-        null: is_absent(a),
-        owner: place_of(o),
+    Ok(Descriptor {
+        null: a.is_none(),
+        owner: owner.place,
         group: place_of(g),
         sacl: place_of(s),
         dacl: place_of(a),
-    }
+    })
 }
 
 // Reads a whole descriptor: each list once.
-pub fn read(d: &[u8]) -> Parts
-    ensures value { result ≡ parts_of d.now }
-    ensures inside { Inside (length d.now) result }
+pub fn read(d: &[u8]) -> Result<Descriptor, Refusal>
+    ensures value { result ≡ handed (parts_of d.now) }
+    ensures inside { IfOk result (λ p. Within (length d.now) p) }
 {
     if !heading(d) {
-        return refused(Verdict::Misshapen);
+        return Err(Refusal::Misshapen);
     }
     let control = base::u16_at(d, 2);
-    let o = sid_piece(d, base::u32_at(d, 4) as usize);
-    let g = sid_piece(d, base::u32_at(d, 8) as usize);
+    let o = sid_piece(d, base::u32_at(d, 4) as usize)?;
+    let g = sid_piece(d, base::u32_at(d, 8) as usize)?;
     let s = acl_piece(
         d,
         control & 0x0010 != 0,
         base::u32_at(d, 12) as usize,
         false,
-    );
-    let a = acl_piece(d, control & 0x0004 != 0, base::u32_at(d, 16) as usize, true);
+    )?;
+    let a = acl_piece(d, control & 0x0004 != 0, base::u32_at(d, 16) as usize, true)?;
     judged(o, g, s, a)
 }
 
@@ -237,41 +184,44 @@ pub fn read(d: &[u8]) -> Parts
 pub fn part(d: &[u8], x: Extent) -> &[u8]
     ensures { result.now ≡ part_in d.now x.from x.to }
 {
-    let from = x.from;
-    let to = x.to;
-    if to < from {
+    x.bytes(d)
+}
+
+// The bytes of one part; none where it is absent or the read refused.
+fn bytes(d: &[u8], which: Which) -> &[u8]
+    ensures { result.now ≡ bytes_of which d.now }
+{
+    let Ok(p) = read(d) else {
         return &d[0..0];
+    };
+    match which {
+        Which::Owner => p.owner.bytes(d),
+        Which::Group => p.group.bytes(d),
+        Which::Sacl => p.sacl.bytes(d),
+        Which::Dacl => p.dacl.bytes(d),
     }
-    if d.len() < to {
-        return &d[0..0];
-    }
-    &d[from..to]
 }
 
 pub fn owner(d: &[u8]) -> &[u8]
     ensures { result.now ≡ owner_of d.now }
 {
-    let p = read(d);
-    part(d, p.owner)
+    bytes(d, Which::Owner)
 }
 
 pub fn group(d: &[u8]) -> &[u8]
     ensures { result.now ≡ group_of d.now }
 {
-    let p = read(d);
-    part(d, p.group)
+    bytes(d, Which::Group)
 }
 
 pub fn sacl(d: &[u8]) -> &[u8]
     ensures { result.now ≡ sacl_of d.now }
 {
-    let p = read(d);
-    part(d, p.sacl)
+    bytes(d, Which::Sacl)
 }
 
 pub fn dacl(d: &[u8]) -> &[u8]
     ensures { result.now ≡ dacl_of d.now }
 {
-    let p = read(d);
-    part(d, p.dacl)
+    bytes(d, Which::Dacl)
 }

@@ -7,4 +7,4 @@ mod descriptor;
 
 pub use acl::{Ace, Rights, ace_at, acl_end, entry_end, is_callback, scan_entries};
 pub use by_length::ace_by_length;
-pub use descriptor::{Extent, Parts, Verdict, dacl, group, owner, part, read, sacl};
+pub use descriptor::{Descriptor, Extent, Refusal, dacl, group, owner, part, read, sacl};

@@ -5,5 +5,5 @@
 mod masks;
 mod tally;
 
-pub use masks::{all_bits, asked, entry_mask, explicit, legal, mapped};
+pub use masks::{all_bits, asked, entry_mask, explicit, legal, mapped, when};
 pub use tally::Tally;

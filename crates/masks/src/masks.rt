@@ -1,7 +1,8 @@
 // The two kinds and their rights: generic bits mapped, entries cut, questions judged.
-ghost use Rattle.std.specs.Prelude.{◌≡◌, cond, ◌<◌, eqb};
-ghost use Rattle.base.specs.Bits.{has};
-ghost use Rattle.masks.specs.KindsAndMasks.{all_bits, mapped, entry_mask};
+// kept: a kind is a number, not an enum: `asked` of the C interface is asked for every kind, also for
+// one that is refused (`pirasteh_why`), and answers by the file's rights there.
+ghost use Rattle.std.specs.Prelude.{◌≡◌, cond};
+ghost use Rattle.masks.specs.KindsAndMasks.{right, all_bits, mapped, entry_mask};
 ghost use Rattle.masks.specs.KindsAndMasks.{legal, explicit, asked};
 
 use crate::tally::Tally;
@@ -13,43 +14,64 @@ const TABLE: [[u32; 4]; 2] = [
     [0x20019, 0x20006, 0x20019, 0xF003F],
 ];
 
-// The row of a kind: 0 file, 1 key.
-fn row(kind: u32) -> usize
-    ensures { (result ≡ cond (eqb kind 2) 1 0) × (result < 2) }
-{
-    if kind == 2 { 1 } else { 0 }
+// The rights of a kind: what each generic bit stands for.
+#[derive(Clone, Copy)]
+struct KindRights {
+    read: Rights,
+    write: Rights,
+    execute: Rights,
+    all: Rights,
 }
 
-// The right, where the mask has the bit.
-fn when(m: Rights, bit: Rights, right: Rights) -> Rights
-    ensures { result.0 ≡ cond (has m.0 bit.0) right.0 0 }
+impl KindRights {
+    // The row of a kind: 0 file, 1 key.
+    #[tactic(auto, unfolding(crate::specs::KindsAndMasks::right))]
+    fn of(kind: u32) -> KindRights
+        ensures read { result.read.0 ≡ right kind 0 }
+        ensures write { result.write.0 ≡ right kind 1 }
+        ensures execute { result.execute.0 ≡ right kind 2 }
+        ensures all { result.all.0 ≡ right kind 3 }
+    {
+        let table = TABLE;
+        let [read, write, execute, all] = if kind == 2 { table[1] } else { table[0] };
+        KindRights {
+            read: Rights(read),
+            write: Rights(write),
+            execute: Rights(execute),
+            all: Rights(all),
+        }
+    }
+}
+
+// The right, where the test holds; else none.
+pub fn when(holds: bool, right: Rights) -> Rights
+    ensures { result.0 ≡ cond holds right.0 0 }
 {
-    if m.0 & bit.0 == 0 { Tally::NONE } else { right }
+    if holds { right } else { Tally::NONE }
 }
 
 // The kind's all bits.
 pub fn all_bits(kind: u32) -> Rights
     ensures { result.0 ≡ all_bits kind }
 {
-    let table = TABLE;
-    let i = row(kind);
-    Rights(table[i][3])
+    KindRights::of(kind).all
 }
 
 // The mask with its generic bits turned into the kind's rights.
+#[tactic(auto, unfolding(crate::specs::KindsAndMasks::mapped))]
 pub fn mapped(kind: u32, m: Rights) -> Rights
     ensures { result.0 ≡ mapped kind m.0 }
 {
-    let table = TABLE;
-    let i = row(kind);
-    let read = when(m, Tally::GENERIC_READ, Rights(table[i][0]));
-    let write = when(m, Tally::GENERIC_WRITE, Rights(table[i][1]));
-    let execute = when(m, Tally::GENERIC_EXECUTE, Rights(table[i][2]));
-    let all = when(m, Tally::GENERIC_ALL, Rights(table[i][3]));
+    let rights = KindRights::of(kind);
+    let read = when(m.0 & Tally::GENERIC_READ.0 != 0, rights.read);
+    let write = when(m.0 & Tally::GENERIC_WRITE.0 != 0, rights.write);
+    let execute = when(m.0 & Tally::GENERIC_EXECUTE.0 != 0, rights.execute);
+    let all = when(m.0 & Tally::GENERIC_ALL.0 != 0, rights.all);
     Rights((m.0 & Tally::NOT_GENERIC.0) | (read.0 | (write.0 | (execute.0 | all.0))))
 }
 
 // An entry's mask: mapped, then cut to the kind's all bits.
+#[tactic(auto, unfolding(crate::specs::KindsAndMasks::entry_mask))]
 pub fn entry_mask(kind: u32, m: Rights) -> Rights
     ensures { result.0 ≡ entry_mask kind m.0 }
 {
@@ -57,6 +79,7 @@ pub fn entry_mask(kind: u32, m: Rights) -> Rights
 }
 
 // Whether a question may ask these bits.
+#[tactic(auto, unfolding(crate::specs::KindsAndMasks::legal))]
 pub fn legal(kind: u32, m: Rights) -> bool
     ensures { result ≡ legal kind m.0 }
 {
@@ -65,6 +88,7 @@ pub fn legal(kind: u32, m: Rights) -> bool
 }
 
 // The explicit bits of a question: its mapped mask without the bit that asks for the maximum.
+#[tactic(auto, unfolding(crate::specs::KindsAndMasks::explicit))]
 pub fn explicit(kind: u32, m: Rights) -> Rights
     ensures { result.0 ≡ explicit kind m.0 }
 {
@@ -72,9 +96,10 @@ pub fn explicit(kind: u32, m: Rights) -> Rights
 }
 
 // The asked bits: the explicit ones, and with the maximum the kind's all bits.
+#[tactic(auto, unfolding(crate::specs::KindsAndMasks::asked))]
 pub fn asked(kind: u32, m: Rights) -> Rights
     ensures { result.0 ≡ asked kind m.0 }
 {
-    let all = when(m, Tally::MAXIMUM, all_bits(kind));
+    let all = when(m.0 & Tally::MAXIMUM.0 != 0, all_bits(kind));
     Rights(explicit(kind, m).0 | all.0)
 }

@@ -75,12 +75,12 @@ impl Tally {
         ensures { result ≡ stepped self hit allow mask.0 }
     {
         if !hit {
-            return self;
+            self
+        } else if allow {
+            self.allow(mask)
+        } else {
+            self.deny(mask)
         }
-        if allow {
-            return self.allow(mask);
-        }
-        self.deny(mask)
     }
 
     // Whether an entry cannot change the tally: it is for children only (flag 0x08), or its bits
@@ -88,9 +88,6 @@ impl Tally {
     pub fn idle(self, flags: u8, mask: Rights) -> bool
         ensures { result ≡ idle self flags mask.0 }
     {
-        if flags & 0x08 != 0 {
-            return true;
-        }
-        self.decided.0 & mask.0 == mask.0
+        flags & 0x08 != 0 || self.decided.0 & mask.0 == mask.0
     }
 }

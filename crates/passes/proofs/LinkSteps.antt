@@ -1,10 +1,11 @@
 -- One turn of the chaining of a crowd, by the way that it takes. For `chain_crowd`. What the chains come to is in LinkLaws.
 -- Assumes nothing.
 use Prim.Native.Nat.{ℕ, zero, suc, ◌+◌, ◌%◌, ◌<◌, ◌≤◌}
-use mathlib.Core.Bool.{Bool, true}
+use mathlib.Core.Bool.{Bool, true, or-true}
 use mathlib.Core.List.{List}
 use mathlib.Core.Path.{◌≡◌}
 use borrow.Author.Tests.{eq-eqb, ne_eqb, lt-ltb, le-ltb}
+use lib.Dec.{eqb}
 use lib.ListN.{length, get_or, set}
 use Rattle.base.specs.Bytes.{u32_at, part}
 use Rattle.passes.specs.Chains.{cell_of, Tables, tables, linked, stops, chained, chains_of}
@@ -28,8 +29,8 @@ module _ (attrs : Bool) (s : List ℕ) (t : Tables) (i : ℕ) (x : Seat) where
   chained_none n z = stopped n (rw (eq-eqb x.to 0 z))
 
   -- there are no more numbers
-  pub chained_many : (n : ℕ) → (x.to ≡ 0 → ⊥) → length t.seats ≤ i → chained attrs s t i n x ≡ t
-  chained_many n k h = stopped n (rw (ne_eqb x.to 0 k, le-ltb i (length t.seats) h))
+  pub chained_many : (n : ℕ) → length t.seats ≤ i → chained attrs s t i n x ≡ t
+  chained_many n h = stopped n (rw (le-ltb i (length t.seats) h, or-true (eqb x.to 0)))
 
   module _ (n : ℕ) (some : x.to ≡ 0 → ⊥) (few : i < length t.seats) where
     pub chained_last : n ≡ 0 → chained attrs s t i n x ≡ linked s t i x

@@ -8,7 +8,8 @@ use native.Mathlib.Omega.{arith}
 use borrow.Author.Tests.{eq-eqb, ne_eqb}
 use Rattle.base.specs.Bits.{has, covers}
 use Rattle.base.specs.Bytes.{same, part, u16_at}
-use Rattle.lists.specs.Acl.{Entry, entry_of}
+use Rattle.std.specs.Prelude.{Some}
+use Rattle.lists.specs.Acl.{Entry, entry_of, stands}
 use Rattle.lists.specs.ByLength.{ace_by_length, entries_by_length_at, entries_by_length}
 use Rattle.sids.specs.Sid.{owner_rights, principal_self, virtual}
 use Rattle.lists.specs.declared.acl.Ace.{Ace}
@@ -21,6 +22,7 @@ use Rattle.passes.specs.OnePass.{skipped, allows, speaks, taken, run}
 use Rattle.passes.specs.OneWalk.{walked_by, walked_from, walked_of}
 use Rattle.passes.specs.declared.matching.Hits.{Hits}
 use Rattle.masks.specs.declared.tally.Tally.{Tally}
+use Rattle.lists.proofs.EntrySteps.{stands_is}
 use Rattle.base.proofs.BitsLaws.{within_covers}
 use Rattle.base.proofs.BoolLaws.{neither}
 use Rattle.masks.proofs.MasksLaws.{entry_mask_within}
@@ -91,6 +93,9 @@ unfolding run names_owner
 walked_step kind ms h t named x es = rw (names_step named (counts x && same x.sid owner_rights) (names_owner es))
 
 -- ---- the entries, where n are left and a stands at the place
+
+pub entry_stands : (a b : Ace) → Some a ≡ stands b → a.next ≡ 0 → ⊥
+entry_stands a b q z = let s = stands_is a b q in s.1 (sym (ap (λ (x : Ace). x.next) s.0) ∙ z)
 
 pub entries_end : (list : List ℕ) (n at : ℕ) → n ≡ 0 → entries_by_length_at list n at ≡ []
 unfolding entries_by_length_at

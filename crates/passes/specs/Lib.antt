@@ -9,5 +9,7 @@ pub mod NormalEvaluation
 pub mod Confinement
 -- how the code goes about it: the seats of a listing chained by the keys of their SIDs
 pub mod Chains
+-- whom a crowd shows, by its tables
+pub mod Crowds
 -- what one walk answers, for every evaluation
 pub mod OneWalk

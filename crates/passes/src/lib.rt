@@ -7,13 +7,10 @@ mod chains;
 mod evaluation;
 mod matching;
 mod search;
-mod stand;
 mod walk;
 mod weighing;
 
 pub use chains::chain_crowd;
 pub use evaluation::{listed, normal};
-pub use matching::{Hit, Hits, matches};
-pub use stand::hits;
-pub use walk::{Walked, pass};
-pub use weighing::admits;
+pub use matching::{Crowd, Hit, Hits};
+pub use walk::Walked;

@@ -1,17 +1,35 @@
 // Which identities match: those whom the tables of chains show, and the two virtual ones.
 ghost use Rattle.std.specs.Prelude.{◌≡◌, ◌-◌, ◌≤◌, length};
 ghost use Rattle.passes.specs.Chains.{chain, shown};
-ghost use Rattle.passes.specs.Matching.{among, side, matches};
+ghost use Rattle.passes.specs.Crowds.{shown_in};
+ghost use Rattle.passes.specs.Matching.{among, side, matches, nobody, hit_of, hits_of};
 ghost use Rattle.passes.specs.OneWalk.{virtual_matches};
 
 use crate::search::{head, is_near, next, sits};
 use seats::last;
 
 // How an identity stands in for a virtual one, for allow and for deny.
+// kept: a side is a truth, `allow`, and no enum: the definitions ask by it (`side`, `among`), and an
+// enum would need a bridge in every clause.
 #[derive(Clone, Copy)]
 pub struct Hit {
     pub allow: bool,
     pub deny: bool,
+}
+
+impl Hit {
+    // Nobody stands in.
+    const NOBODY: Hit = Hit {
+        allow: false,
+        deny: false,
+    };
+
+    // The side that is asked for.
+    fn facing(self, allow: bool) -> bool
+        ensures { result ≡ side allow self }
+    {
+        if allow { self.allow } else { self.deny }
+    }
 }
 
 // How the owner and the self identity match.
@@ -21,15 +39,23 @@ pub struct Hits {
     pub me: Hit,
 }
 
+impl Hits {
+    // How a virtual identity matches: S-1-3-4 as the owner does, S-1-5-10 as the self identity
+    // does.
+    pub(crate) fn matches(self, w: &[u8], allow: bool) -> bool
+        ensures { result ≡ virtual_matches allow self w.now }
+    {
+        if sids::is_owner_rights(w) {
+            self.owner.facing(allow)
+        } else {
+            self.me.facing(allow)
+        }
+    }
+}
+
 // Whether a SID matches one of the chain that begins with the seat of a number; with 0 there is
 // none. Seat by seat along the chain, and down the row from where it goes on nearby.
-pub(crate) fn search_chain(
-    listing: &[u8],
-    seats: &[u64],
-    first: usize,
-    w: &[u8],
-    allow: bool,
-) -> bool
+fn search_chain(listing: &[u8], seats: &[u64], first: usize, w: &[u8], allow: bool) -> bool
     requires { first ≤ length seats.now - 1 }
     ensures { result ≡ among allow
         (chain seats.now listing.now first first) w.now }
@@ -37,10 +63,8 @@ pub(crate) fn search_chain(
     let word = last(w);
     let mut n = first;
     let mut down = false;
-    loop {
-        if n == 0 {
-            return false;
-        }
+    // kept: a chain leaps, so no range goes along it.
+    while n != 0 {
         let x = seats[n];
         if sits(listing, x, word, w, allow) {
             return true;
@@ -55,55 +79,84 @@ pub(crate) fn search_chain(
             n = after;
         }
     }
+    false
 }
 
-// Whether a SID matches one of those whom the tables show.
-fn among(listing: &[u8], heads: &[u16; 512], seats: &[u64], w: &[u8], allow: bool) -> bool
-    ensures { result ≡ among allow
-        (shown heads.now seats.now listing.now)
-        w.now }
-{
-    let n = head(heads, seats, w);
-    search_chain(listing, seats, n, w, allow)
+// A crowd: those whom the tables of chains show over a token's listing, and how the owner and the
+// self identity match in it.
+#[derive(Clone, Copy)]
+pub struct Crowd<'a> {
+    pub listing: &'a [u8],
+    pub heads: &'a [u16; 512],
+    pub seats: &'a [u64],
+    pub hits: Hits,
 }
 
-// The side of a hit that is asked for.
-fn facing(h: Hit, allow: bool) -> bool
-    ensures { result ≡ side allow h }
-{
-    if allow {
-        return h.allow;
+impl<'a> Crowd<'a> {
+    // The crowd that tables show, with its owner and its self identity (`me`, which may be empty).
+    pub fn of(
+        listing: &'a [u8],
+        heads: &'a [u16; 512],
+        seats: &'a [u64],
+        owner: &[u8],
+        me: &[u8],
+    ) -> Self
+        ensures shows { shown_in result ≡ shown heads.now seats.now listing.now }
+        ensures hits { result.hits ≡ hits_of (shown heads.now seats.now listing.now)
+            owner.now me.now }
+    {
+        let nobody = Hits {
+            owner: Hit::NOBODY,
+            me: Hit::NOBODY,
+        };
+        let bare = Crowd {
+            listing,
+            heads,
+            seats,
+            hits: nobody,
+        };
+        let hits = Hits {
+            owner: bare.hit(owner),
+            me: bare.hit(me),
+        };
+        Crowd { hits, ..bare }
     }
-    h.deny
-}
 
-// How a virtual identity matches: S-1-3-4 as the owner does, S-1-5-10 as the self identity does.
-pub(crate) fn virtual_matches(w: &[u8], hits: Hits, allow: bool) -> bool
-    ensures { result ≡ virtual_matches allow hits w.now }
-{
-    if sids::is_owner_rights(w) {
-        let owner = hits.owner;
-        return facing(owner, allow);
+    // How an identity stands in for a virtual one. An empty one does not, nor a virtual one, nor one
+    // whose chain is empty; these are told apart once, for allow and deny both.
+    fn hit(self, w: &[u8]) -> Hit
+        ensures { result ≡ hit_of (shown_in self.entry) w.now }
+    {
+        if w.len() == 0 || sids::is_virtual(w) {
+            return Hit::NOBODY;
+        }
+        let n = head(self.heads, self.seats, w);
+        if n == 0 {
+            return Hit::NOBODY;
+        }
+        Hit {
+            allow: search_chain(self.listing, self.seats, n, w, true),
+            deny: search_chain(self.listing, self.seats, n, w, false),
+        }
     }
-    let me = hits.me;
-    facing(me, allow)
-}
 
-// Whether a SID matches, for allow or for deny: a virtual one by the hits, any other by the tables.
-pub fn matches(
-    listing: &[u8],
-    heads: &[u16; 512],
-    seats: &[u64],
-    hits: Hits,
-    w: &[u8],
-    allow: bool,
-) -> bool
-    ensures { result ≡ matches allow
-        (shown heads.now seats.now listing.now) hits
-        w.now }
-{
-    if sids::is_virtual(w) {
-        return virtual_matches(w, hits, allow);
+    // Whether a SID matches one of those whom the tables show.
+    fn among(self, w: &[u8], allow: bool) -> bool
+        ensures { result ≡ among allow (shown_in self.entry) w.now }
+    {
+        let n = head(self.heads, self.seats, w);
+        search_chain(self.listing, self.seats, n, w, allow)
     }
-    among(listing, heads, seats, w, allow)
+
+    // Whether a SID matches, for allow or for deny: a virtual one by the hits, any other by the
+    // tables.
+    pub fn matches(self, w: &[u8], allow: bool) -> bool
+        ensures { result ≡ matches allow (shown_in self.entry) self.entry.hits w.now }
+    {
+        if sids::is_virtual(w) {
+            self.hits.matches(w, allow)
+        } else {
+            self.among(w, allow)
+        }
+    }
 }

@@ -9,20 +9,15 @@ ghost use Rattle.passes.specs.Chains.{near, row, head_of};
 
 use seats::{key, last};
 
-// A number of two bytes as a wider one, with its bound.
-fn wide(x: u16) -> usize
-    ensures { (result ≡ x) × (result < 65536) }
-{
-    x as usize
-}
-
 // The number of the first seat of a SID's chain; 0 where there is none.
+// kept: 0 and no Option, here and in `next`, since cells and heads hold it so and no heap takes more:
+// `chains_of` and `head_of` of specs say it.
 pub(crate) fn head(heads: &[u16; 512], seats: &[u64], w: &[u8]) -> usize
     ensures value { result ≡ head_of heads.now seats.now w.now }
     ensures upper_bound { result ≤ length seats.now - 1 }
 {
     let k = key(w);
-    let n = wide(heads[k]);
+    let n = usize::from(heads[k]);
     if seats.len() <= n {
         return 0;
     }
@@ -41,10 +36,7 @@ pub(crate) fn is_near(n: usize, after: usize) -> bool
     requires { after < 512 }
     ensures { result ≡ near n after }
 {
-    if after == 0 {
-        return false;
-    }
-    n < after + 16
+    after != 0 && n < after + 16
 }
 
 // Whether the seat of a cell matches for allow, or for deny.
@@ -52,9 +44,10 @@ fn ready(x: u64, allow: bool) -> bool
     ensures { result ≡ cond allow (allows_in x) (denies_in x) }
 {
     if allow {
-        return x / 536870912 % 2 == 1;
+        x / 536870912 % 2 == 1
+    } else {
+        x / 1073741824 % 2 == 1
     }
-    x / 1073741824 % 2 == 1
 }
 
 // Whether the SID of a cell has the last word.
@@ -78,17 +71,7 @@ pub(crate) fn sits(listing: &[u8], x: u64, word: u32, w: &[u8], allow: bool) -> 
     if listing.len() < to {
         return false;
     }
-    if !ready(x, allow) {
-        return false;
-    }
-    base::same(&listing[from..to], w)
-}
-
-// Whether one of two cells has the last word.
-fn either_ends(x: u64, y: u64, word: u32) -> bool
-    ensures { result ≡ (eqb (last_in x) word || eqb (last_in y) word) }
-{
-    ends(x, word) | ends(y, word)
+    ready(x, allow) && base::same(&listing[from..to], w)
 }
 
 // Whether one of the four seats from a number down has the last word.
@@ -99,8 +82,8 @@ fn one_ends(seats: &[u64], n: usize, word: u32) -> bool
         || (eqb (last_in (get_or seats.now (n - 2) 0)) word
         || eqb (last_in (get_or seats.now (n - 3) 0)) word)) }
 {
-    let upper = either_ends(seats[n], seats[n - 1], word);
-    let lower = either_ends(seats[n - 2], seats[n - 3], word);
+    let upper = ends(seats[n], word) | ends(seats[n - 1], word);
+    let lower = ends(seats[n - 2], word) | ends(seats[n - 3], word);
     upper | lower
 }
 
@@ -113,17 +96,18 @@ pub(crate) fn search_row(listing: &[u8], seats: &[u64], from: usize, w: &[u8], a
 {
     let word = last(w);
     let mut n = from;
+    // kept: the four are counted down by hand: where one of them has the word, the row goes on from
+    // there seat by seat, which chunks of four from the end would not say in fewer words.
     'fours: while 4 <= n {
         if one_ends(seats, n, word) {
             break 'fours;
         }
         n -= 4;
     }
-    while 0 < n {
-        if sits(listing, seats[n], word, w, allow) {
+    for i in (1..n + 1).rev() {
+        if sits(listing, seats[i], word, w, allow) {
             return true;
         }
-        n -= 1;
     }
     false
 }

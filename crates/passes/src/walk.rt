@@ -6,13 +6,12 @@ ghost use Rattle.sids.specs.Sid.{owner_rights};
 ghost use Rattle.conditions.specs.Membership.{admits};
 ghost use Rattle.lists.specs.Acl.{callback};
 ghost use Rattle.lists.specs.ByLength.{entries_by_length};
-ghost use Rattle.passes.specs.Chains.{shown};
+ghost use Rattle.passes.specs.Crowds.{shown_in};
 ghost use Rattle.passes.specs.OnePass.{member};
 ghost use Rattle.passes.specs.OneWalk.{walked_of};
 
-use crate::matching::{Hits, virtual_matches};
+use crate::matching::Crowd;
 use crate::search::{head, is_near, next, search_row, sits};
-use crate::weighing::admits;
 use lists::Rights;
 use masks::{Tally, all_bits, entry_mask};
 use seats::last;
@@ -36,116 +35,93 @@ fn counts(flags: u8) -> bool
 fn names(before: bool, w: &[u8]) -> bool
     ensures { result ≡ (before || same w.now owner_rights) }
 {
-    if before {
-        return true;
-    }
-    sids::is_owner_rights(w)
+    before || sids::is_owner_rights(w)
 }
 
-// Whether an entry speaks: its SID matches (`hit`), and it has no condition, or a true one, which
-// stands from `from` to `to` of the list.
-fn speaks(
-    hit: bool,
-    kind: u8,
-    list: &[u8],
-    from: usize,
-    to: usize,
-    listing: &[u8],
-    heads: &[u16; 512],
-    seats: &[u64],
-    hits: Hits,
-) -> bool
-    requires { (from ≤ to) × (to ≤ length list.now) }
-    ensures { result ≡ (hit && admits (member
-        (shown heads.now seats.now listing.now) hits)
-        (cond (callback kind) (part list.now from to) [])) }
-{
-    if !hit {
-        return false;
+impl Crowd<'_> {
+    // Whether an entry speaks: its SID matches (`hit`), and it has no condition, or a true one,
+    // which stands from `from` to `to` of the list.
+    fn speaks(self, hit: bool, kind: u8, list: &[u8], from: usize, to: usize) -> bool
+        requires { (from ≤ to) × (to ≤ length list.now) }
+        ensures { result ≡ (hit && admits (member (shown_in self.entry) self.entry.hits)
+            (cond (callback kind) (part list.now from to) [])) }
+    {
+        hit && (!lists::is_callback(kind) || self.admits(&list[from..to]))
     }
-    if !lists::is_callback(kind) {
-        return true;
-    }
-    admits(&list[from..to], listing, heads, seats, hits)
-}
 
-// The pass of a list, which was judged before, against those whom the tables of chains show: each
-// entry in stored order, each against the identities that share its key, and where these stand close
-// together against all below. With the chains of a crowd they decide as the whole crowd does. `hits`
-// answers for the two virtual identities. Where all bits are decided only entries for these two are
-// taken.
-pub fn pass(
-    kind: u32,
-    list: &[u8],
-    listing: &[u8],
-    heads: &[u16; 512],
-    seats: &[u64],
-    hits: Hits,
-) -> Walked
-    ensures { result ≡ walked_of kind
-        (shown heads.now seats.now listing.now) hits
-        (entries_by_length list.now) }
-{
-    let entries = base::u16_at(list, 4);
-    let all = all_bits(kind);
-    let mut t = Tally::empty();
-    let mut named = false;
-    let mut k: u32 = 0;
-    let mut place: usize = 8;
-    'entries: while k < entries {
-        let e = lists::ace_by_length(list, place);
-        place = e.next;
-        if place == 0 {
-            break 'entries;
-        }
-        k += 1;
-        if !counts(e.flags) {
-            continue 'entries;
-        }
-        let from = e.from;
-        let to = e.to;
-        let who = &list[from..to];
-        let class = e.kind;
-        let allow = (class == 0) | (class == 9);
-        if sids::is_virtual(who) {
-            named = names(named, who);
+    // The pass of a list, which was judged before, against those whom the tables of chains show:
+    // each entry in stored order, each against the identities that share its key, and where these
+    // stand close together against all below. With the chains of a crowd they decide as the whole
+    // crowd does. The hits answer for the two virtual identities. Where all bits are decided only
+    // entries for these two are taken.
+    pub fn pass(self, kind: u32, list: &[u8]) -> Walked
+        ensures { result ≡ walked_of kind (shown_in self.entry) self.entry.hits
+            (entries_by_length list.now) }
+    {
+        let Crowd {
+            listing,
+            heads,
+            seats,
+            hits,
+        } = self;
+        let entries = base::u16_at(list, 4);
+        let all = all_bits(kind);
+        let mut t = Tally::empty();
+        let mut named = false;
+        let mut place: usize = 8;
+        'entries: for _ in 0..entries {
+            let Some(e) = lists::ace_by_length(list, place) else {
+                break 'entries;
+            };
+            place = e.next;
+            if !counts(e.flags) {
+                continue 'entries;
+            }
+            let from = e.from;
+            let to = e.to;
+            let who = &list[from..to];
+            let class = e.kind;
+            let allow = (class == 0) | (class == 9);
+            if sids::is_virtual(who) {
+                named = names(named, who);
+                let mask = entry_mask(kind, e.mask);
+                let hit = hits.matches(who, allow);
+                let spoken = self.speaks(hit, class, list, to, place);
+                t = t.step(spoken, allow, mask);
+                continue 'entries;
+            }
+            if t.decided.0 == all.0 {
+                continue 'entries;
+            }
+            let first = head(heads, seats, who);
+            if first == 0 {
+                continue 'entries;
+            }
             let mask = entry_mask(kind, e.mask);
-            let hit = virtual_matches(who, hits, allow);
-            let spoken = speaks(hit, class, list, to, place, listing, heads, seats, hits);
+            if t.idle(e.flags, mask) {
+                continue 'entries;
+            }
+            // "The search through a token stops at the first listing that matches."
+            let word = last(who);
+            let mut n = first;
+            let hit = 'search: loop {
+                if n == 0 {
+                    break 'search false;
+                }
+                let x = seats[n];
+                if sits(listing, x, word, who, allow) {
+                    break 'search true;
+                }
+                let after = next(x);
+                if is_near(n, after) {
+                    break 'search search_row(listing, seats, n - 1, who, allow);
+                }
+                n = after;
+            };
+            let spoken = self.speaks(hit, class, list, to, place);
             t = t.step(spoken, allow, mask);
-            continue 'entries;
         }
-        if t.decided.0 == all.0 {
-            continue 'entries;
-        }
-        let first = head(heads, seats, who);
-        if first == 0 {
-            continue 'entries;
-        }
-        let mask = entry_mask(kind, e.mask);
-        if t.idle(e.flags, mask) {
-            continue 'entries;
-        }
-        // "The search through a token stops at the first listing that matches."
-        let word = last(who);
-        let mut n = first;
-        let hit = 'search: loop {
-            if n == 0 {
-                break 'search false;
-            }
-            let x = seats[n];
-            if sits(listing, x, word, who, allow) {
-                break 'search true;
-            }
-            let after = next(x);
-            if is_near(n, after) {
-                break 'search search_row(listing, seats, n - 1, who, allow);
-            }
-            n = after;
-        };
-        let spoken = speaks(hit, class, list, to, place, listing, heads, seats, hits);
-        t = t.step(spoken, allow, mask);
+        let allowed = t.allowed;
+        Walked { allowed, named }
     }
-    let allowed = t.allowed;
-    Walked { allowed, named }
 }

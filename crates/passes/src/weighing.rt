@@ -1,149 +1,60 @@
 // Whether a condition is true in a pass. "Membership means matching for allow in the pass being
 // made": by the tables of chains, and by the hits for the two virtual identities.
-ghost use Rattle.std.specs.Prelude.{◌≡◌, true, ◌≤◌, List, length};
-ghost use Rattle.conditions.specs.Condition.{Item};
-ghost use Rattle.conditions.specs.Stack.{coded};
-ghost use Rattle.conditions.specs.Membership.{sids_of, meets, reply, told_of, outcome, says, admits};
-ghost use Rattle.passes.specs.Chains.{shown};
+ghost use Rattle.std.specs.Prelude.{◌≡◌, true};
+ghost use Rattle.conditions.specs.Membership.{sids_of, meets, admits};
+ghost use Rattle.passes.specs.Crowds.{shown_in};
 ghost use Rattle.passes.specs.Matching.{matches};
 
-use crate::matching::{Hits, matches};
-use conditions::{Outcome, Stack, Step, ended, literal_end, step, zeros};
+use crate::matching::Crowd;
+use conditions::{Tests, literal_end, weigh};
 
-// Whether every SID of a list is a member, or some SID is.
-fn meets(
-    c: &[u8],
-    listing: &[u8],
-    heads: &[u16; 512],
-    seats: &[u64],
-    hits: Hits,
-    every: bool,
-) -> bool
-    ensures { result ≡ meets (matches true
-        (shown heads.now seats.now listing.now) hits)
-        every (sids_of c.now) }
-{
-    let mut at: usize = 0;
-    while at < c.len() {
-        let e = literal_end(c, at);
-        if e == 0 {
-            return every;
-        }
-        let from = at + 5;
-        if matches(listing, heads, seats, hits, &c[from..e], true) {
-            if !every {
-                return true;
-            }
-        } else {
-            if every {
-                return false;
-            }
-        }
-        at = e;
-    }
-    every
-}
+impl Tests for Crowd<'_> {
+    ghost use Rattle.std.specs.Prelude.{true};
+    ghost use Rattle.conditions.specs.Membership.{sids_of, reply};
+    ghost use Rattle.passes.specs.Crowds.{shown_in};
+    ghost use Rattle.passes.specs.Matching.{matches};
 
-// What one of the four tests of membership is told of a list.
-fn reply(c: &[u8], listing: &[u8], heads: &[u16; 512], seats: &[u64], hits: Hits, b: u8) -> bool
-    ensures { result ≡ reply (matches true
-        (shown heads.now seats.now listing.now) hits)
-        b (sids_of c.now) }
-{
-    if b == 0x89 {
-        return meets(c, listing, heads, seats, hits, true);
-    }
-    if b == 0x8b {
-        return meets(c, listing, heads, seats, hits, false);
-    }
-    if b == 0x90 {
-        return !meets(c, listing, heads, seats, hits, true);
-    }
-    !meets(c, listing, heads, seats, hits, false)
-}
+    ghost told = { λ c b list. reply (matches true (shown_in c) c.hits) b (sids_of list) };
 
-// What a test is told of the latest operand; of a truth, or of none, false.
-fn told(
-    s: &[u8],
-    listing: &[u8],
-    heads: &[u16; 512],
-    seats: &[u64],
-    hits: Hits,
-    b: u8,
-    m: Stack,
-) -> bool
-    requires { (m.from ≤ m.to) × (m.to ≤ length s.now) }
-    ensures { (st : List Item) → m ≡ coded st → result ≡ told_of (matches true
-        (shown heads.now seats.now listing.now) hits)
-        s.now b st }
-{
-    if m.word % 4 != 3 {
-        return false;
-    }
-    let from = m.from;
-    let to = m.to;
-    reply(&s[from..to], listing, heads, seats, hits, b)
-}
-
-// What an expression comes to, token by token from the left.
-fn weigh(s: &[u8], listing: &[u8], heads: &[u16; 512], seats: &[u64], hits: Hits) -> Outcome
-    ensures { result ≡ outcome (matches true
-        (shown heads.now seats.now listing.now) hits)
-        s.now }
-{
-    if base::u32_at(s, 0) != 0x7874_7261 {
-        return Outcome::Broken;
-    }
-    let mut m = Stack {
-        word: 0,
-        from: 0,
-        to: 0,
-    };
-    let mut at: usize = 4;
-    while at < s.len() {
-        if s[at] == 0 {
-            if zeros(&s[at..]) {
-                return ended(m.word);
-            }
-            return Outcome::Broken;
-        }
-        let t = told(s, listing, heads, seats, hits, s[at], m);
-        match step(s, at, m.word, t) {
-            Step::Broken => {
-                return Outcome::Broken;
-            }
-            Step::Foreign => {
-                return Outcome::Foreign;
-            }
-            Step::On(next, after) => {
-                at = next;
-                m = after;
-            }
+    // What one of the four tests of membership is told of a list.
+    fn tell(&self, b: u8, list: &[u8]) -> bool {
+        match b {
+            0x89 => self.meets(list, true),
+            0x8b => self.meets(list, false),
+            0x90 => !self.meets(list, true),
+            _ => !self.meets(list, false),
         }
     }
-    ended(m.word)
 }
 
-// Whether an outcome is the truth true.
-fn says(o: Outcome) -> bool
-    ensures { result ≡ says o }
-{
-    match o {
-        Outcome::Broken => false,
-        Outcome::Foreign => false,
-        Outcome::Says(b) => b,
+impl Crowd<'_> {
+    // Whether every SID of a list is a member, or some SID is.
+    fn meets(self, c: &[u8], every: bool) -> bool
+        ensures { result ≡ meets (matches true (shown_in self.entry) self.entry.hits)
+            every (sids_of c.now) }
+    {
+        let mut at: usize = 0;
+        while at < c.len() {
+            let Some(e) = literal_end(c, at) else {
+                return every;
+            };
+            let from = at + 5;
+            if self.matches(&c[from..e], true) != every {
+                return !every;
+            }
+            at = e;
+        }
+        every
     }
-}
 
-// Whether a condition admits in a pass against those whom the tables show: there is none, or it is
-// true. `hits` answers for the two virtual identities.
-pub fn admits(c: &[u8], listing: &[u8], heads: &[u16; 512], seats: &[u64], hits: Hits) -> bool
-    ensures { result ≡ admits (matches true
-        (shown heads.now seats.now listing.now) hits)
-        c.now }
-{
-    if c.len() == 0 {
-        return true;
+    // Whether a condition admits in a pass against those whom the tables show: there is none, or it
+    // is true. The hits answer for the two virtual identities. It is no part of the pass's own loop,
+    // where few entries have a condition.
+    #[inline(never)]
+    pub fn admits(self, c: &[u8]) -> bool
+        ensures { result ≡ admits (matches true (shown_in self.entry) self.entry.hits)
+            c.now }
+    {
+        c.len() == 0 || weigh(c, &self).unwrap_or(false)
     }
-    says(weigh(c, listing, heads, seats, hits))
 }

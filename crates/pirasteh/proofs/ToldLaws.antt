@@ -5,8 +5,7 @@ use mathlib.Core.Path.{◌≡◌, ap, ◌∙◌}
 use mathlib.Core.List.{List}
 use lib.Seq.{sets}
 use Rattle.records.specs.Converters.{Conversion}
-use Rattle.tokens.specs.Answers.{answered}
-use Rattle.tokens.specs.declared.Converted.{Converted}
+use Rattle.tokens.specs.Answers.{answered, Converted}
 use Rattle.access.specs.Reported.{Report, Lent}
 use Rattle.answers.specs.declared.answer.Answer.{Answer}
 use Rattle.access.specs.declared.answer.Traced.{Traced}

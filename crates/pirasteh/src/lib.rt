@@ -1,9 +1,12 @@
 // The functions that C and Rust call; `pirasteh_c` exports them. Each hands its arguments to the
 // check or to a converter, and the answer to the numbers lent for it; nothing is decided here.
+// kept: a question's parts one by one and lent numbers, in all eight functions: they are the C
+// interface.
 #![tactic(auto)]
 
-ghost use Rattle.std.specs.Prelude.{◌≡◌, cond, length};
+ghost use Rattle.std.specs.Prelude.{◌≡◌, length};
 ghost use Rattle.records.specs.Converters.{as_listing, as_record, fitted};
+ghost use Rattle.tokens.specs.Answers.{converted_by};
 ghost use Rattle.access.specs.Status.{checked};
 ghost use Rattle.questions.specs.QuestionFile.{file_answer, file_desires, file_report};
 ghost use Rattle.access.specs.Reported.{report_of, in_buffer};
@@ -11,26 +14,17 @@ ghost use Rattle.pirasteh.specs.Told.{Told, Handed};
 ghost use Rattle.pirasteh.specs.Explained.{if_answered, Shown, Explained};
 ghost use Rattle.pirasteh.specs.Followed.{Followed};
 
+use access::Question;
 use answers::Answer;
 use lists::Rights;
-
-// 1 for yes and 0 for no.
-fn number(b: bool) -> u32
-    ensures { result ≡ cond b 1 0 }
-{
-    if b {
-        return 1;
-    }
-    0
-}
 
 // The parts of an answer: the status, and the rest in the lent numbers.
 fn tell(a: Answer, granted: &mut u32, allowed: &mut u32, staged: &mut u32) -> u32
     ensures { Told a result granted.new allowed.new staged.new }
 {
     *granted = a.granted.0;
-    *allowed = number(a.allowed);
-    *staged = number(a.staged);
+    *allowed = u32::from(a.allowed);
+    *staged = u32::from(a.staged);
     a.status
 }
 
@@ -56,8 +50,15 @@ pub fn pirasteh_check(
       policy = policy.now;
     })) result granted.new allowed.new staged.new }
 {
-    let a = access::check(kind, Rights(mask), token, me, descriptor, policy);
-    tell(a, granted, allowed, staged)
+    let q = Question {
+        kind,
+        mask: Rights(mask),
+        token,
+        me,
+        descriptor,
+        policy,
+    };
+    tell(access::check(q), granted, allowed, staged)
 }
 
 // The answer to a question file, in the same way.
@@ -65,8 +66,7 @@ pub fn pirasteh_question(file: &[u8], granted: &mut u32, allowed: &mut u32, stag
     ensures { Told (file_answer file.now) result
         granted.new allowed.new staged.new }
 {
-    let a = questions::question(file);
-    tell(a, granted, allowed, staged)
+    tell(questions::question(file), granted, allowed, staged)
 }
 
 // The three masks of an answer that come before the granted one, in the lent numbers.
@@ -82,10 +82,7 @@ fn show(a: Answer, normal: &mut u32, confined: &mut u32, ruled: &mut u32)
 fn if_answered(status: u32, n: u32) -> u32
     ensures { result ≡ if_answered status n }
 {
-    if status == 0 {
-        return n;
-    }
-    0
+    if status == 0 { n } else { 0 }
 }
 
 // The answer to a question with its masks: beside what `pirasteh_check` says, in the lent numbers
@@ -116,9 +113,16 @@ pub fn pirasteh_why(
     })) kind mask result asked.new normal.new confined.new
         ruled.new granted.new allowed.new staged.new }
 {
-    let desired = Rights(mask);
-    let a = access::check(kind, desired, token, me, descriptor, policy);
-    *asked = if_answered(a.status, masks::asked(kind, desired).0);
+    let q = Question {
+        kind,
+        mask: Rights(mask),
+        token,
+        me,
+        descriptor,
+        policy,
+    };
+    let a = access::check(q);
+    *asked = if_answered(a.status, masks::asked(kind, q.mask).0);
     show(a, normal, confined, ruled);
     tell(a, granted, allowed, staged)
 }
@@ -175,10 +179,17 @@ pub fn pirasteh_trail(
     }))) trail.old trail.new written.new result
         granted.new allowed.new staged.new }
 {
-    let t = access::trail(kind, Rights(mask), token, me, descriptor, policy, trail);
-    let a = t.answer;
+    let q = Question {
+        kind,
+        mask: Rights(mask),
+        token,
+        me,
+        descriptor,
+        policy,
+    };
+    let t = access::trail(q, trail);
     *written = t.length;
-    tell(a, granted, allowed, staged)
+    tell(t.answer, granted, allowed, staged)
 }
 
 // The answer to a question file and its trail, in the same way.
@@ -195,9 +206,24 @@ pub fn pirasteh_trail_question(
         written.new result granted.new allowed.new staged.new }
 {
     let t = questions::trail_question(file, trail);
-    let a = t.answer;
     *written = t.length;
-    tell(a, granted, allowed, staged)
+    tell(t.answer, granted, allowed, staged)
+}
+
+// A conversion's status, and in `written` its length; 0 on refusal.
+fn convert(c: Result<usize, tokens::Refusal>, written: &mut usize) -> u32
+    ensures { converted_by c ≡ record { status = result; length = written.new } }
+{
+    match c {
+        Ok(n) => {
+            *written = n;
+            0
+        }
+        Err(e) => {
+            *written = 0;
+            e.number()
+        }
+    }
 }
 
 // The flat listing of a packed token record, written to `out`: the status, and in `written` how
@@ -206,9 +232,7 @@ pub fn pirasteh_list(token: &[u8], out: &mut [u8], written: &mut usize) -> u32
     ensures { Handed (fitted (length out.old) (as_listing token.now))
         out.old out.new written.new result }
 {
-    let c = tokens::to_listing(token, out);
-    *written = c.length;
-    c.status
+    convert(tokens::to_listing(token, out), written)
 }
 
 // The packed token record of a flat listing, in the same way.
@@ -216,7 +240,5 @@ pub fn pirasteh_pack(listing: &[u8], out: &mut [u8], written: &mut usize) -> u32
     ensures { Handed (fitted (length out.old) (as_record listing.now))
         out.old out.new written.new result }
 {
-    let c = tokens::to_record(listing, out);
-    *written = c.length;
-    c.status
+    convert(tokens::to_record(listing, out), written)
 }

@@ -17,15 +17,15 @@ use Rattle.lists.proofs.ByLengthLaws.{entries_by_length_lem, entries_by_none}
 use Rattle.lists.specs.Acl.{acl_end, scan_of, entries_of}
 use Rattle.lists.specs.ByLength.{entries_by_length}
 use Rattle.conditions.specs.Scanning.{is_broken, is_foreign}
-use Rattle.conditions.specs.declared.scan.Scan.{Scan}
-use Rattle.conditions.specs.declared.scan.Scan.TheVariants.{Broken, Foreign, Plain}
+use Rattle.conditions.specs.Scanning.{Scan}
+use Rattle.conditions.specs.Scanning.Scan.{Broken, Foreign, Plain}
 use Rattle.policy.specs.Policy.{section_at, bytes_of, acl_section, maybe_acl, applies_section, no_rule, rule_of, rule_at}
 use Rattle.policy.specs.Policy.{rules_shaped, rules_unread, standing, standing_of}
 use Rattle.policy.specs.Rules.{Lists, lists_of, rules_at, rules_of}
 use Rattle.policy.specs.ByLengths.{rule_by_lengths, lists_by_lengths, rules_by_lengths_at, rules_by_lengths}
-use Rattle.policy.specs.declared.sections.Section.{Section}
+use Rattle.lists.specs.declared.descriptor.Extent.{Extent}
 use Rattle.policy.specs.declared.one_rule.Rule.{Rule}
-use Rattle.policy.specs.declared.shape.Standing.TheVariants.{Sound, Misshapen}
+use Rattle.policy.specs.Standing.Standing.{Sound, Misshapen}
 use Rattle.policy.proofs.OneRuleSteps.{applies_in, list_in, maybe_in, made, rule_applies, rule_dacl, rule_sacl}
 use Rattle.policy.proofs.OneRuleSteps.{rule_staged, rule_last, rule_whole}
 use Rattle.policy.proofs.PolicySteps.{standing_long, standing_short, standing_other, standing_many, standing_rules}
@@ -33,14 +33,14 @@ use Rattle.policy.proofs.PolicySteps.{standing_long, standing_short, standing_ot
 -- ---- a rule that is well shaped
 
 -- of a rule that is not misshapen: its applies_to and its access lists are not broken, and it is made of its sections
-pub record Shaped (s : List ℕ) (applies dacl sacl staged last : Section) : Type 0 where
+pub record Shaped (s : List ℕ) (applies dacl sacl staged last : Extent) : Type 0 where
   pub fine : is_broken (applies_in s applies) ≡ false
   pub effective : is_broken (list_in s dacl) ≡ false
   pub stages : is_broken (maybe_in true s staged) ≡ false
   pub is : rule_of s applies dacl sacl staged last
       ≡ made s applies dacl sacl staged last (applies_in s applies) (list_in s dacl) (maybe_in true s staged)
 
-module _ (s : List ℕ) (applies dacl sacl staged last : Section) where
+module _ (s : List ℕ) (applies dacl sacl staged last : Extent) where
   pub shaped_rule : ((rule_of s applies dacl sacl staged last).next ≡ 0 → ⊥) → Shaped s applies dacl sacl staged last
   shaped_rule h =
       go

@@ -9,10 +9,12 @@ use native.Mathlib.Omega.{arith}
 use lib.ListN.{length}
 use borrow.Author.Tests.{lt-ltb, le-ltb, eq-eqb, ne_eqb}
 use Rattle.base.specs.Bytes.{byte_at, u32_at}
-use Rattle.policy.specs.Policy.{rule_at, rules_shaped, rules_unread, standing, standing_of}
+use Rattle.std.specs.Prelude.{None, Some}
+use Rattle.policy.proofs.RulesSteps.{found_none, found_some}
+use Rattle.policy.specs.Policy.{found, rule_at, rules_shaped, rules_unread, standing, standing_of}
 use Rattle.policy.specs.declared.one_rule.Rule.{Rule}
-use Rattle.policy.specs.declared.shape.Standing.{Standing}
-use Rattle.policy.specs.declared.shape.Standing.TheVariants.{Sound, Misshapen, Unread}
+use Rattle.policy.specs.Standing.{Standing}
+use Rattle.policy.specs.Standing.Standing.{Sound, Misshapen, Unread}
 
 -- ---- the walk over all rules
 
@@ -34,16 +36,16 @@ module _ (s : List ℕ) (met : Bool) (m k at : ℕ) where
   rules_over h e = let z : m - k ≡ 0 = omega arith in rw (z, ne_eqb at (length s) e)
 
   -- one rule more, as the code reads it
-  pub rules_broken : (r : Rule) → k < m → r ≡ rule_at s at → r.next ≡ 0 → Left s met (m - k) at ≡ Misshapen
+  pub rules_broken : k < m → None ≡ found (rule_at s at) → Left s met (m - k) at ≡ Misshapen
   unfolding rules_shaped
-  rules_broken r h e f = let n : m - k ≡ suc (m - (k + 1)) = omega arith in rw (n, ← e, eq-eqb r.next 0 f)
+  rules_broken h e = let n : m - k ≡ suc (m - (k + 1)) = omega arith in rw (n, found_none _ e)
 
-  pub rules_more : (r : Rule) (now : Bool) → k < m → r ≡ rule_at s at → (r.next ≡ 0 → ⊥) → now ≡ (met || r.unread) →
-      Left s met (m - k) at ≡ Left s now (m - (k + 1)) r.next
+  pub rules_more : (r : Rule) → k < m → Some r ≡ found (rule_at s at) → Left s met (m - k) at ≡ Left s (met || r.unread) (m - (k + 1)) r.next
   unfolding rules_shaped rules_unread
-  rules_more r now h e f g =
+  rules_more r h e =
       let n : m - k ≡ suc (m - (k + 1)) = omega arith in
-      rw (n, ← e, ne_eqb r.next 0 f, g)
+      let p = found_some r _ e in
+      rw (n, p.1, ← p.0)
       (ap (standing (rules_shaped s (m - (k + 1)) r.next)) (go (rules_unread s (m - (k + 1)) r.next) met r.unread))
     where
       go : (q t u : Bool) → (t || cond u true q) ≡ ((t || u) || q)

@@ -1,14 +1,15 @@
 -- What the rules of a policy leave, by each step of the code. For the functions of `rules`.
--- In order: a rule by its sections (step_read), a section with bytes in it (section_there), one result (result_is), one rule more
--- (narrowed-.., judged-..), the walk over all rules (Left, left-..).
+-- In order: a rule as the code answers it (found-..), the walk over all rules (walk-..), a section with bytes in it (section_there), one
+-- result (result_is), one rule more (narrowed-.., judged-.., left-..).
 -- Not here: what all rules come to, RulesLaws. Assumes nothing.
-use Prim.Native.Nat.{ℕ, suc, ◌+◌, ◌-◌, ◌<◌, ◌≤◌}
-use mathlib.Core.Path.{◌≡◌, refl, sym, ◌∙◌}
-use mathlib.Core.List.{List}
-use mathlib.Core.Bool.{Bool, true, false, ◌||◌}
+use Prim.Native.Nat.{ℕ, suc, ◌-◌, ◌<◌, ◌≤◌}
+use mathlib.Core.Path.{◌≡◌, refl, sym, ap, ◌∙◌}
+use mathlib.Core.List.{List, [], ◌∷◌}
+use mathlib.Core.Bool.{Bool, true, false, cond, ◌||◌}
 use native.Mathlib.Omega.{arith}
-use lib.Dec.{ltb}
-use borrow.Author.Tests.{lt-ltb, le-ltb, ltb-true, ltb-false, eq-eqb, ne_eqb}
+use lib.Dec.{ltb, eqb}
+use borrow.Author.Tests.{lt-ltb, le-ltb, ltb-true, ltb-false}
+use Rattle.std.specs.Prelude.{None, Some}
 use Rattle.base.specs.Bits.{and, or, differ}
 use Rattle.base.proofs.BytesLaws.{length_part}
 use Rattle.lists.specs.Acl.{Entry}
@@ -17,32 +18,49 @@ use Rattle.passes.specs.NormalEvaluation.{normal_of}
 use Rattle.passes.specs.OneWalk.{walked_of, normal_by}
 use Rattle.passes.specs.declared.matching.Hits.{Hits}
 use Rattle.passes.specs.declared.walk.Walked.{Walked}
-use Rattle.policy.specs.Policy.{section_at, bytes_of, Lies}
+use Rattle.policy.specs.Policy.{bytes_of, Lies, found}
 use Rattle.policy.specs.Rules.{Lists, result_of, ruled, there, applies_to, narrowed_by, judged_by, ruled_from}
 use Rattle.policy.specs.ByLengths.{rule_by_lengths, lists_by_lengths, rules_by_lengths_at}
-use Rattle.policy.specs.declared.sections.Section.{Section}
+use Rattle.lists.specs.declared.descriptor.Extent.{Extent}
 use Rattle.policy.specs.declared.one_rule.Rule.{Rule}
 use Rattle.policy.specs.declared.rules.Ruled.{Ruled}
 
--- a rule, from its sections as the code reads them
-pub step_read : (s : List ℕ) (at : ℕ) (applies dacl sacl staged last : Section) → applies ≡ section_at s at →
-    dacl ≡ section_at s applies.to → sacl ≡ section_at s dacl.to → staged ≡ section_at s sacl.to → last ≡ section_at s staged.to →
-    ◌≡◌ {A = Rule}
-    (record {
-      next = last.to;
-      unread = false;
-      applies = applies;
-      effective = dacl;
-      sacl = sacl;
-      staged = staged;
-      staged_sacl = last;
-    })
-    (rule_by_lengths s at)
-unfolding rule_by_lengths
-step_read s at applies dacl sacl staged last a d x t y = rw (y, t, x, d, a)
+-- a rule, as the code answers it
+pub found_some : (r x : Rule) → Some r ≡ found x → (r ≡ x) × (eqb x.next 0 ≡ false)
+found_some r x h = go (eqb x.next 0) refl h
+  where
+    go : (b : Bool) → eqb x.next 0 ≡ b → Some r ≡ cond b None (Some x) → (r ≡ x) × (eqb x.next 0 ≡ false)
+    go true e f = absurd (cc)
+    go false e f = (cc, e)
+
+pub found_none : (x : Rule) → None ≡ found x → eqb x.next 0 ≡ true
+found_none x h = go (eqb x.next 0) refl h
+  where
+    go : (b : Bool) → eqb x.next 0 ≡ b → None ≡ cond b None (Some x) → eqb x.next 0 ≡ true
+    go true e f = e
+    go false e f = absurd (cc)
+
+-- ---- the walk over all rules
+
+module _ (s : List ℕ) (n at : ℕ) where
+  pub walk_over : n ≡ 0 → rules_by_lengths_at s n at ≡ []
+  unfolding rules_by_lengths_at
+  walk_over e = rw e
+
+  pub walk_stops : (n ≡ 0 → ⊥) → None ≡ found (rule_by_lengths s at) → rules_by_lengths_at s n at ≡ []
+  unfolding rules_by_lengths_at
+  walk_stops f h = let k : n ≡ suc (n - 1) = omega arith in rw (k, found_none _ h)
+
+  pub walk_more : (r : Rule) → (n ≡ 0 → ⊥) → Some r ≡ found (rule_by_lengths s at) →
+      rules_by_lengths_at s n at ≡ lists_by_lengths s r ∷ rules_by_lengths_at s (n - 1) r.next
+  unfolding rules_by_lengths_at
+  walk_more r f h =
+      let k : n ≡ suc (n - 1) = omega arith in
+      let p = found_some r _ h in
+      ap (λ (m : ℕ). rules_by_lengths_at s m at) k ∙ rw (p.1, p.0)
 
 -- a section that lies within the bytes has bytes if it ends after its start
-pub section_there : (s : List ℕ) (x : Section) → Lies s x → ltb x.from x.to ≡ there (bytes_of s x)
+pub section_there : (s : List ℕ) (x : Extent) → Lies s x → ltb x.from x.to ≡ there (bytes_of s x)
 section_there s x l = rw (length_part s x.from x.to l.0 l.1) (go (ltb x.from x.to) refl)
   where
     go : (b : Bool) → ltb x.from x.to ≡ b → ltb x.from x.to ≡ ltb 0 (x.to - x.from)
@@ -78,26 +96,12 @@ module _ (kind : ℕ) (ms : List Member) (h : Hits) (p : ℕ) where
     unfolding judged_by
     judged_passed t = rw t
 
-  -- ---- the walk over all rules
+  -- the rules that are left, one fewer or none
+  pub left_more : (st next : Ruled) (rs : List Lists) (r : Lists) (qs : List Lists) → rs ≡ r ∷ qs → next ≡ judged_by kind ms h p st r →
+      ruled_from kind ms h p st rs ≡ ruled_from kind ms h p next qs
+  unfolding ruled_from
+  left_more st next rs r qs e f = rw (e, f)
 
-  module _ (s : List ℕ) where
-    -- what m rules from a place come to, after those before
-    abbrev pub Left : Ruled → ℕ → ℕ → Ruled
-    Left st m at = ruled_from kind ms h p st (rules_by_lengths_at s m at)
-
-    module _ (st : Ruled) (m k at : ℕ) where
-      pub left_end : m ≤ k → Left st (m - k) at ≡ st
-      unfolding rules_by_lengths_at ruled_from
-      left_end l = let z : m - k ≡ 0 = omega arith in rw z
-
-      pub left_stop : (r : Rule) → k < m → r ≡ rule_by_lengths s at → r.next ≡ 0 → Left st (m - k) at ≡ st
-      unfolding rules_by_lengths_at ruled_from
-      left_stop r l e f = let n : m - k ≡ suc (m - (k + 1)) = omega arith in rw (n, ← e, eq-eqb r.next 0 f)
-
-      -- one rule more, as the code reads and judges it
-      pub left_more : (r : Rule) (next : Ruled) → k < m → r ≡ rule_by_lengths s at → (r.next ≡ 0 → ⊥) →
-          next ≡ judged_by kind ms h p st (lists_by_lengths s r) → Left st (m - k) at ≡ Left next (m - (k + 1)) r.next
-      unfolding rules_by_lengths_at ruled_from
-      left_more r next l e f g =
-          let n : m - k ≡ suc (m - (k + 1)) = omega arith in
-          rw (n, ← e, ne_eqb r.next 0 f, g)
+  pub left_none : (st : Ruled) (rs : List Lists) → rs ≡ [] → ruled_from kind ms h p st rs ≡ st
+  unfolding ruled_from
+  left_none st rs e = rw e

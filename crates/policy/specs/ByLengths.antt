@@ -1,6 +1,6 @@
 -- How the code goes about it: a policy whose shape is judged already is walked once more, by the lengths of its sections and of their entries
 -- alone. Nothing here decides an answer; PolicyLaws shows that an accepted policy's rules are found so.
-use Rattle.std.specs.Prelude.{ℕ, zero, suc, List, [], ◌∷◌, false, cond, ltb, eqb}
+use Rattle.std.specs.Prelude.{ℕ, zero, suc, List, [], ◌∷◌, false, cond, ltb, eqb, Option, None, Some}
 use Rattle.base.specs.Bytes.{u32_at}
 use Rattle.lists.specs.ByLength.{entries_by_length}
 use Rattle.policy.specs.Policy.{bytes_of, section_at}
@@ -24,6 +24,15 @@ rule_by_lengths s at =
       staged = staged;
       staged_sacl = staged_sacl;
     }
+
+-- a rule whose five sections fit
+abbrev pub whole : Rule → Option Rule
+whole r =
+    cond (eqb r.applies.to 0) None
+    (cond (eqb r.effective.to 0) None
+    (cond (eqb r.sacl.to 0) None
+    (cond (eqb r.staged.to 0) None
+    (cond (eqb r.staged_sacl.to 0) None (Some r)))))
 
 -- what a rule says, its entries found by their lengths
 abbrev pub lists_by_lengths : List ℕ → Rule → Lists

@@ -1,17 +1,19 @@
 -- "Policy (source 004): at most 262,144 bytes; version 1; rule count u32, at most 256; per rule five sections with a u32 length:
 -- applies_to (at most 65,536), effective DACL (not empty), effective SACL, staged DACL, staged SACL. An ACL section's length equals its
 -- ACL's size. Nothing follows. An empty policy means none."
-use Rattle.std.specs.Prelude.{ℕ, zero, suc, ◌+◌, ◌≤◌, List, Bool, true, false, cond, ◌||◌, length, ltb, eqb}
+use Rattle.std.specs.Prelude.{ℕ, zero, suc, ◌+◌, ◌≤◌, List, Bool, true, false, cond, ◌||◌, length, ltb, eqb, Option, None, Some, Result, Ok, Err}
 use Rattle.base.specs.Bytes.{byte_at, u32_at, part}
 use Rattle.conditions.specs.Scanning.{is_broken, is_foreign}
 use Rattle.conditions.specs.Condition.{shape}
+use Rattle.conditions.specs.declared.fault.Fault.{Fault}
+use Rattle.conditions.specs.declared.fault.Fault.TheVariants as fault
 use Rattle.lists.specs.Acl.{acl_end, scan_of}
-use Rattle.conditions.specs.declared.scan.Scan.{Scan}
-use Rattle.conditions.specs.declared.scan.Scan.TheVariants.{Broken, Plain}
-use Rattle.policy.specs.declared.sections.Section.{Section}
+use Rattle.conditions.specs.Scanning.{Scan}
+use Rattle.conditions.specs.Scanning.Scan.{Broken, Plain}
+use Rattle.lists.specs.declared.descriptor.Extent.{Extent}
 use Rattle.policy.specs.declared.one_rule.Rule.{Rule}
-use Rattle.policy.specs.declared.shape.Standing.{Standing}
-use Rattle.policy.specs.declared.shape.Standing.TheVariants.{Sound, Misshapen, Unread}
+use Rattle.policy.specs.Standing.{Standing}
+use Rattle.policy.specs.Standing.Standing.{Sound, Misshapen, Unread}
 
 -- the page's number for each standing
 unfoldable pub number_of : Standing → ℕ
@@ -22,19 +24,19 @@ number_of Unread = 10
 -- ---- sections
 
 -- the bytes of a section stand from `from` to `to`; both 0 where the length or the bytes do not fit
-abbrev pub section : ℕ → ℕ → Section
+abbrev pub section : ℕ → ℕ → Extent
 section a e = record { from = a; to = e }
 
-unfoldable pub section_at : List ℕ → ℕ → Section
+unfoldable pub section_at : List ℕ → ℕ → Extent
 section_at s at =
     let n = u32_at s at in
     cond (ltb (length s) (at + 4)) (section 0 0) (cond (ltb (length s) (at + 4 + n)) (section 0 0) (section (at + 4) (at + 4 + n)))
 
-abbrev pub bytes_of : List ℕ → Section → List ℕ
+abbrev pub bytes_of : List ℕ → Extent → List ℕ
 bytes_of s x = part s x.from x.to
 
 -- a section lies within the bytes
-abbrev pub Lies : List ℕ → Section → Type 0
+abbrev pub Lies : List ℕ → Extent → Type 0
 Lies s x = (x.from ≤ x.to) × (x.to ≤ length s)
 
 -- "An ACL section's length equals its ACL's size."
@@ -71,7 +73,7 @@ Placed s r =
     × (Lies s r.applies × (Lies s r.effective × (Lies s r.sacl × (Lies s r.staged × Lies s r.staged_sacl))))
 
 -- five sections; "Broken expressions give 6 or 9, other tokens 8 or 10" (request 103), in applies_to as in the lists
-unfoldable pub rule_of : List ℕ → Section → Section → Section → Section → Section → Rule
+unfoldable pub rule_of : List ℕ → Extent → Extent → Extent → Extent → Extent → Rule
 rule_of s applies dacl sacl staged staged_sacl =
     let applies_scan = applies_section (bytes_of s applies) in
     let effective_scan = acl_section true (bytes_of s dacl) in
@@ -103,6 +105,22 @@ rule_at s at =
     let sacl = section_at s dacl.to in
     let staged = section_at s sacl.to in
     rule_of s applies dacl sacl staged (section_at s staged.to)
+
+-- ---- what the code answers
+
+-- a section, where it fits
+abbrev pub fitting : Extent → Option Extent
+fitting x = cond (eqb x.to 0) None (Some x)
+
+-- whether something foreign was found, where nothing is broken
+abbrev pub alien : Result Unit Fault → Option Bool
+alien (Ok u) = Some false
+alien (Err fault.Foreign) = Some true
+alien (Err fault.Broken) = None
+
+-- a rule, where it is not misshapen
+abbrev pub found : Rule → Option Rule
+found r = cond (eqb r.next 0) None (Some r)
 
 -- ---- the whole policy
 

@@ -6,8 +6,9 @@ mod one_rule;
 mod rules;
 mod sections;
 mod shape;
+mod walk;
 
 pub use one_rule::Rule;
-pub use rules::{Ruled, rule_by_lengths, ruled_by};
-pub use sections::Section;
-pub use shape::{Standing, judge_policy};
+pub use rules::{Ruled, ruled_by};
+pub use shape::{Refusal, judge_policy};
+pub use walk::Rules;

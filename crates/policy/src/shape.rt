@@ -1,62 +1,53 @@
 // The shape of a policy, and the numbers 9 and 10. What its lists say is read elsewhere.
 ghost use Rattle.std.specs.Prelude.{◌≡◌};
+ghost use Rattle.policy.specs.Standing.{judged};
 ghost use Rattle.policy.specs.Policy.{rules_shaped, rules_unread, standing, standing_of};
 
 use crate::one_rule::rule_at;
 
-// What a policy is; the page's numbers are 0, 9 and 10.
-#[derive(Clone, Copy)]
-pub enum Standing {
-    Sound,
+// Why a policy is refused; the page's numbers are 9 and 10.
+#[derive(Clone, Copy, PartialEq, Eq)]
+pub enum Refusal {
     Misshapen,
     Unread,
 }
 
-// The standing of `n` rules that stand back to back after the heading, with nothing after them.
-fn judge_rules(s: &[u8], n: u32) -> Standing
-    ensures { result ≡ standing (rules_shaped s.now n 5) (rules_unread s.now n 5) }
+// Judges `n` rules that stand back to back after the heading, with nothing after them.
+// kept: no walk by `Rules`, since each rule is judged here, and the place after the last is asked.
+fn judge_rules(s: &[u8], n: u32) -> Result<(), Refusal>
+    ensures { result ≡ judged (standing (rules_shaped s.now n 5) (rules_unread s.now n 5)) }
 {
     let mut unread = false;
     let mut at: usize = 5;
-    let mut k: u32 = 0;
-    while k < n {
-        let r = rule_at(s, at);
-        let next = r.next;
-        if next == 0 {
-            return Standing::Misshapen;
-        }
-        unread = base::either(unread, r.unread);
-        at = next;
-        k += 1;
+    for _ in 0..n {
+        let Some(r) = rule_at(s, at) else {
+            return Err(Refusal::Misshapen);
+        };
+        unread |= r.unread;
+        at = r.next;
     }
     if at != s.len() {
-        return Standing::Misshapen;
+        return Err(Refusal::Misshapen);
     }
     if unread {
-        return Standing::Unread;
+        return Err(Refusal::Unread);
     }
-    Standing::Sound
+    Ok(())
 }
 
-// The standing of a policy. "An empty policy means none."
-pub fn judge_policy(s: &[u8]) -> Standing
-    ensures { result ≡ standing_of s.now }
+// Judges a policy. "An empty policy means none."
+pub fn judge_policy(s: &[u8]) -> Result<(), Refusal>
+    ensures { result ≡ judged (standing_of s.now) }
 {
-    if s.len() == 0 {
-        return Standing::Sound;
+    if s.is_empty() {
+        return Ok(());
     }
-    if 262144 < s.len() {
-        return Standing::Misshapen;
-    }
-    if s.len() < 5 {
-        return Standing::Misshapen;
-    }
-    if s[0] != 1 {
-        return Standing::Misshapen;
+    if 262144 < s.len() || s.len() < 5 || s[0] != 1 {
+        return Err(Refusal::Misshapen);
     }
     let n = base::u32_at(s, 1);
     if 256 < n {
-        return Standing::Misshapen;
+        return Err(Refusal::Misshapen);
     }
     judge_rules(s, n)
 }

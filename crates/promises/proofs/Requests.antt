@@ -42,7 +42,7 @@ use Rattle.conditions.proofs.MembershipLaws as membership
 use Rattle.conditions.proofs.judge as judge
 use Rattle.lists.specs.Acl.{named, audits, Entry, entry_end, scan_of, entries_of}
 use Rattle.lists.specs.Spare.{LongEnough, said_at, SameButSpare}
-use Rattle.conditions.specs.declared.scan.Scan.TheVariants.{Plain}
+use Rattle.conditions.specs.Scanning.Scan.{Plain}
 use Rattle.lists.specs.ByLength.{entries_by_length}
 use Rattle.lists.proofs.ByLengthLaws as lengths
 use Rattle.lists.proofs.SpareLaws as spare
@@ -64,7 +64,7 @@ use Rattle.passes.specs.Confinement.{confines}
 use Rattle.passes.specs.declared.matching.Hits.{Hits}
 use Rattle.masks.specs.declared.tally.Tally.{Tally}
 use Rattle.passes.proofs.ChainedLaws as links
-use Rattle.passes.proofs.admits as admitting
+use Rattle.passes.proofs.Crowd.admits as admitting
 use Rattle.policy.specs.Rules.{rules_of}
 use Rattle.audit.specs.Trail.{trail_bytes}
 use Rattle.access.specs.Status.{Question, by_lists, raised_for, checked}

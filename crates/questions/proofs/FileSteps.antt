@@ -1,10 +1,9 @@
 -- The ways out of the reader of question files (specs: QuestionFile, Blobs): one for each part that does not stand, and the whole.
 -- Assumes nothing.
 use Prim.Native.Nat.{ℕ, ◌+◌, ◌≤◌, ◌<◌}
-use mathlib.Core.Path.{◌≡◌, refl, ◌∙◌}
+use mathlib.Core.Path.{◌≡◌, refl}
 use mathlib.Core.List.{List}
 use mathlib.Core.Bool.{Bool, true, false, cond}
-use native.Mathlib.Omega.{arith}
 use lib.Dec.{ltb}
 use lib.ListN.{length}
 use borrow.Author.Tests.{lt-ltb, le-ltb, le-leb, lt-leb, eq-eqb, ne_eqb}
@@ -15,9 +14,6 @@ use Rattle.answers.specs.Granted.{refused}
 use Rattle.access.specs.Status.{Question}
 use Rattle.access.specs.Reported.{refusal, report_of}
 use Rattle.questions.specs.QuestionFile.{blob_at, question_of, answering, file_answer, reporting, file_report}
-use Rattle.questions.specs.Blobs.{no_blob, bytes_in, handed, nowhere, question_in, posed, BlobLies, PlacesLie}
-use Rattle.questions.specs.declared.file.Blob.{Blob}
-use Rattle.questions.specs.declared.file.Places.{Places}
 
 -- ---- a part
 
@@ -34,16 +30,6 @@ module _ (s : List ℕ) (at : ℕ) where
     pub blob_stands : a + n ≤ length s → blob_at s at ≡ some (part s a (a + n)) (a + n)
     unfolding blob_at
     blob_stands l = rw (e, le-leb (a + n) (length s) l)
-
-pub handed_none : (s : List ℕ) (at : ℕ) (b : Blob) → blob_at s at ≡ handed s b → b.ok ≡ false → blob_at s at ≡ none
-handed_none s at b e n = e ∙ rw n
-
-pub handed_some : (s : List ℕ) (at : ℕ) (b : Blob) → blob_at s at ≡ handed s b → b.ok ≡ true → blob_at s at ≡ some (bytes_in s b) b.to
-handed_some s at b e n = e ∙ rw n
-
-pub not_handed : (s : List ℕ) (at : ℕ) (b : Blob) → b ≡ no_blob → blob_at s at ≡ none →
-    (blob_at s at ≡ handed s b) × ((b.from ≤ b.to) × (b.to ≤ length s))
-not_handed s at b e n = rw (e, n) (refl, (omega arith, omega arith))
 
 -- ---- the parts one after the other
 
@@ -87,14 +73,7 @@ module _ (s : List ℕ) where
               unfolding question_of
               whole_question n = rw (kind, mask, token, self, descriptor, policy, eq-eqb g (length s) n, n)
 
--- ---- what `parse` promises on refusal, and the answer to a file
-
-pub not_posed : (s : List ℕ) (r : Places) → r ≡ nowhere → question_of s ≡ none → (question_of s ≡ posed s r) × PlacesLie s r
-not_posed s r e n =
-    let none_lies : BlobLies s no_blob = (omega arith, omega arith) in
-    rw (e, n) (refl, record { token = none_lies; me = none_lies; descriptor = none_lies; policy = none_lies })
-
--- the report on a file, and its answer
+-- ---- the report on a file, and its answer
 module _ (s : List ℕ) where
   pub file_long : 65536 < length s → file_report s ≡ refusal 12
   unfolding file_report
@@ -117,9 +96,3 @@ module _ (s : List ℕ) where
       go true r = refl
       go false none = refl
       go false (some q end) = refl
-
-pub posed_none : (s : List ℕ) (p : Places) → question_of s ≡ posed s p → p.ok ≡ false → question_of s ≡ none
-posed_none s p e n = e ∙ rw n
-
-pub posed_some : (s : List ℕ) (p : Places) → question_of s ≡ posed s p → p.ok ≡ true → question_of s ≡ some (question_in s p) (length s)
-posed_some s p e n = e ∙ rw n

@@ -1,4 +1,4 @@
 -- the question file
 pub mod QuestionFile
--- how the code goes about it: where the parts of a question file stand
+-- the same as the code holds it
 pub mod Blobs

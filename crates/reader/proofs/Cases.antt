@@ -8,8 +8,8 @@ use Rattle.base.specs.Bytes.{u16_at, u32_at}
 use Rattle.sids.specs.Sid.{sid_end}
 use Rattle.lists.specs.Acl.{head_end, callback, named, judges, holds, entry_end, ace_at, entries_at, entries_of}
 use Rattle.lists.specs.Descriptor.{part_in}
-use Rattle.reader.specs.declared.Step.{Step}
-use Rattle.reader.specs.declared.Step.TheVariants.{Entry as Shown, End}
+use Rattle.reader.specs.Reading.{Step}
+use Rattle.reader.specs.Reading.Step.{Shown, End}
 use Rattle.reader.specs.Reading.{end_from, held, step_at, next_place, read_all}
 
 -- allow 1 to S-1-5 at 8, deny 2 to S-1-7 at 24; the count is n

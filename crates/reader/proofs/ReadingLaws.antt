@@ -17,14 +17,14 @@ use Rattle.base.proofs.BytesLaws.{length_part, part_short}
 use Rattle.lists.specs.Acl.{Entry, ace_at, entry_of, entries_at, entries_of, scan_of}
 use Rattle.lists.specs.Spare.{Agree, read_to}
 use Rattle.lists.specs.declared.acl.Ace.{Ace}
-use Rattle.conditions.specs.declared.scan.Scan.TheVariants.{Plain}
+use Rattle.conditions.specs.Scanning.Scan.{Plain}
 use Rattle.base.proofs.PartLaws.{byte_of_part}
 use Rattle.lists.proofs.DescriptorSteps.{part_in_past, part_in_inside}
 use Rattle.lists.proofs.AclLaws.{entries_stop, entries_more, entries_short, plain_reads_all}
 use Rattle.lists.proofs.SpareLaws.{ace_bounds, ace_past, read_fits}
 use Rattle.lists.proofs.AlikeLaws.{ace_alike, entry_alike}
 use Rattle.reader.specs.declared.Entries.{Entries}
-use Rattle.reader.specs.declared.Step.TheVariants.{Entry as Shown, End}
+use Rattle.reader.specs.Reading.Step.{Shown, End}
 use Rattle.reader.specs.Reading.{end_from, held, step_at, read_all}
 use Rattle.reader.proofs.StepLaws.{step_none, step_some, end_none, end_stop, end_more, EndLies, end_lies}
 

@@ -1,6 +1,6 @@
 -- What stands at a place of a held list, and where a list ends. For `step_at`, `end` and `held`.
 -- In order: a step at a place (step_none, step_some), what holds of one that shows an entry (Stands, step_stands), and how far it goes
--- (step_moves, step_fits, step_stays, step_inside); the place after the last entry (end_none, end_stop, end_more, end_left, EndLies,
+-- (step_moves, step_fits, step_stays, step_inside), how the code answers it (step_shown, shown_some, shown_none); the place after the last entry (end_none, end_stop, end_more, end_left, EndLies,
 -- end_lies), and what is held (held_is).
 -- Not here: readings from a place to the end, ReadingLaws. Assumes nothing.
 use Prim.Native.Nat.{ℕ, zero, suc, ◌+◌, ◌-◌, ◌<◌, ◌≤◌}
@@ -12,12 +12,13 @@ use lib.ListN.{length}
 use lib.Dec.{eqb}
 use borrow.Author.Tests.{eq-eqb, ne_eqb, eqb-true, eqb-false}
 use Rattle.base.specs.Bytes.{u16_at}
-use Rattle.lists.specs.Acl.{ace_at}
+use Rattle.std.specs.Prelude.{None, Some}
+use Rattle.lists.specs.Acl.{ace_at, stands}
 use Rattle.lists.specs.Descriptor.{part_in}
 use Rattle.lists.specs.declared.acl.Ace.{Ace}
 use Rattle.lists.proofs.SpareLaws.{ace_next, ace_bounds}
-use Rattle.reader.specs.declared.Step.TheVariants.{Entry as Shown, End}
-use Rattle.reader.specs.Reading.{end_from, held, step_at, place_after, next_place}
+use Rattle.reader.specs.Reading.Step.{Shown, End}
+use Rattle.reader.specs.Reading.{Step, end_from, held, step_at, shown, place_after, next_place}
 
 -- ---- a step at a place
 
@@ -62,6 +63,23 @@ module _ (l : List ℕ) (at : ℕ) where
   step_inside a q =
       let s : Stands l at a = step_stands a q in
       rw s.same ((ace_bounds l at s.some).past, (ace_bounds l at s.some).inside)
+
+-- the code's answer is the entry that stands there, and what it shows
+pub step_shown : (l : List ℕ) (at : ℕ) → stands (ace_at l at) ≡ shown (step_at l at)
+unfolding step_at
+step_shown l at = go (eqb (ace_at l at).next 0)
+  where
+    go : (t : Bool) → cond t None (Some (ace_at l at)) ≡ shown (cond t End (Shown (ace_at l at)))
+    go true = refl
+    go false = refl
+
+pub shown_some : (s : Step) (a : Ace) → Some a ≡ shown s → s ≡ Shown a
+shown_some (Shown b) a q = cc
+shown_some End a q = absurd (cc)
+
+pub shown_none : (s : Step) → None ≡ shown s → s ≡ End
+shown_none (Shown b) q = absurd (cc)
+shown_none End q = refl
 
 -- ---- the place after the last entry
 

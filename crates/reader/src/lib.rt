@@ -7,17 +7,10 @@
 #![tactic(auto)]
 
 ghost use Rattle.std.specs.Prelude.{◌≡◌};
-ghost use Rattle.reader.specs.Reading.{end_from, held, step_at, next_place};
+ghost use Rattle.reader.specs.Reading.{end_from, held, step_at, next_place, shown};
 ghost use Rattle.base.specs.Bytes.{u16_at};
 
 use lists::{Ace, Extent};
-
-// What stands at a place of a list: one of its entries with a SID, or the end.
-#[derive(Clone, Copy)]
-pub enum Step {
-    Entry(Ace),
-    End,
-}
 
 // The list that it was opened on, up to its last entry, and its place in that list.
 #[derive(Clone, Copy)]
@@ -30,16 +23,12 @@ pub struct Entries<'a> {
 fn end(list: &[u8]) -> usize
     ensures { result ≡ end_from list.now (u16_at list.now 4) 8 }
 {
-    let n = base::u16_at(list, 4);
     let mut p: usize = 8;
-    let mut k: u32 = 0;
-    while k < n {
-        let a = lists::ace_at(list, p);
-        if a.next == 0 {
+    for _k in 0..base::u16_at(list, 4) {
+        let Some(a) = lists::ace_at(list, p) else {
             return p;
-        }
+        };
         p = a.next;
-        k += 1;
     }
     p
 }
@@ -48,19 +37,18 @@ fn end(list: &[u8]) -> usize
 pub fn held(list: &[u8]) -> &[u8]
     ensures { result.now ≡ held list.now }
 {
-    let to = end(list);
-    lists::part(list, Extent { from: 0, to })
+    let all = Extent {
+        from: 0,
+        to: end(list),
+    };
+    all.bytes(list)
 }
 
-// What stands at a place of a held list.
-pub fn step_at(list: &[u8], at: usize) -> Step
-    ensures { result ≡ step_at list.now at }
+// What stands at a place of a held list: one of its entries with a SID, or the end.
+pub fn step_at(list: &[u8], at: usize) -> Option<Ace>
+    ensures { result ≡ shown (step_at list.now at) }
 {
-    let a = lists::ace_at(list, at);
-    if a.next == 0 {
-        return Step::End;
-    }
-    Step::Entry(a)
+    lists::ace_at(list, at)
 }
 
 // The place after what stands at a place; at the end, the same place.
@@ -68,68 +56,73 @@ pub fn next_place(list: &[u8], at: usize) -> usize
     ensures { result ≡ next_place list.now at }
 {
     match step_at(list, at) {
-        Step::Entry(a) => a.next,
-        Step::End => at,
+        Some(a) => a.next,
+        None => at,
     }
 }
 
-// A reader of the list, at its first entry's place. The one walk over the whole list.
-pub fn opened<'a>(list: &'a [u8]) -> Entries<'a>
-    ensures { (result.list.now ≡ held list.now) × (result.at ≡ 8) }
-{
-    Entries {
-        list: held(list),
-        at: 8,
+impl<'a> Entries<'a> {
+    // A reader of the list, at its first entry's place. The one walk over the whole list.
+    pub fn opened(list: &'a [u8]) -> Entries<'a>
+        ensures { (result.list.now ≡ held list.now) × (result.at ≡ 8) }
+    {
+        Entries {
+            list: held(list),
+            at: 8,
+        }
     }
-}
 
-// A reader put together again of its list, which is a held one, and its place in that list.
-pub fn placed<'a>(list: &'a [u8], at: usize) -> Entries<'a>
-    ensures { (result.list ≡ list.entry) × (result.at ≡ at) }
-{
-    Entries { list, at }
-}
+    // A reader put together again of its list, which is a held one, and its place in that list.
+    pub fn placed(list: &'a [u8], at: usize) -> Entries<'a>
+        ensures { (result.list ≡ list.entry) × (result.at ≡ at) }
+    {
+        Entries { list, at }
+    }
 
-// What stands at the reader's place.
-pub fn current<'a>(r: Entries<'a>) -> Step
-    ensures { result ≡ step_at r.entry.list.now r.entry.at }
-{
-    step_at(r.list, r.at)
-}
+    // What stands at the reader's place.
+    pub fn current(self) -> Option<Ace>
+        ensures { result ≡ shown (step_at self.entry.list.now self.entry.at) }
+    {
+        step_at(self.list, self.at)
+    }
 
-// The reader of the same list, past what stands at its place. It does not leave the end.
-pub fn stepped<'a>(r: Entries<'a>) -> Entries<'a>
-    ensures { (result.list ≡ r.entry.list)
-        × (result.at ≡ next_place r.entry.list.now r.entry.at) }
-{
-    let at = next_place(r.list, r.at);
-    Entries { list: r.list, at }
-}
+    // The reader of the same list, past what stands at its place. It does not leave the end.
+    pub fn stepped(self) -> Entries<'a>
+        ensures { (result.list ≡ self.entry.list)
+            × (result.at ≡ next_place self.entry.list.now self.entry.at) }
+    {
+        let at = next_place(self.list, self.at);
+        Entries {
+            list: self.list,
+            at,
+        }
+    }
 
-// The list that the reader holds.
-pub fn list<'a>(r: Entries<'a>) -> &'a [u8]
-    ensures { result ≡ r.entry.list }
-{
-    r.list
-}
+    // The list that the reader holds.
+    pub fn list(self) -> &'a [u8]
+        ensures { result ≡ self.entry.list }
+    {
+        self.list
+    }
 
-// Its place in that list.
-pub fn place<'a>(r: Entries<'a>) -> usize
-    ensures { result ≡ r.entry.at }
-{
-    r.at
+    // Its place in that list.
+    pub fn place(self) -> usize
+        ensures { result ≡ self.entry.at }
+    {
+        self.at
+    }
 }
 
 // The first entry of a list, by a reader opened on it.
-pub fn first(list: &[u8]) -> Step
-    ensures { result ≡ step_at (held list.now) 8 }
+pub fn first(list: &[u8]) -> Option<Ace>
+    ensures { result ≡ shown (step_at (held list.now) 8) }
 {
-    current(opened(list))
+    Entries::opened(list).current()
 }
 
 // What follows on what stands at a place of a held list, by a reader that is put there and stepped.
-pub fn after(list: &[u8], at: usize) -> Step
-    ensures { result ≡ step_at list.now (next_place list.now at) }
+pub fn after(list: &[u8], at: usize) -> Option<Ace>
+    ensures { result ≡ shown (step_at list.now (next_place list.now at)) }
 {
-    current(stepped(placed(list, at)))
+    Entries::placed(list, at).stepped().current()
 }

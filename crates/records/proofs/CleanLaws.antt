@@ -1,14 +1,15 @@
 -- Laws of what unpacking says of the token rules.
--- In order: a claim that is not made (unclaimed), the place after what was written (done_from,
+-- In order: the place after what was written (done_from,
 -- word_inside), an identity (count_plain, told_plain), groups (groups_none, groups_more), a token without flags (unflagged,
 -- people_keeping). Not here: the whole record, RecordAnswer. Assumes nothing.
 use Prim.Native.Nat.{ℕ, zero, suc, ◌+◌, ◌-◌, ◌<◌, ◌≤◌}
 use mathlib.Core.Path.{◌≡◌, refl, ap, ◌∙◌}
 use mathlib.Core.List.{List, [], ◌∷◌, ◌++◌, append_assoc}
-use mathlib.Core.Bool.{Bool, true, false, not}
+use mathlib.Core.Bool.{Bool, true, false}
 use native.Mathlib.Omega.{arith}
-use borrow.Author.Tests.{not-false, ne_eqb}
+use borrow.Author.Tests.{ne_eqb}
 use lib.Dec.{leb}
+use Rattle.std.specs.Prelude.{Some}
 use lib.ListN.{length, take, drop, length-append, length-take}
 use lib.Seq.{sets, sets-eq}
 use Rattle.base.specs.Bytes.{Read, bind, only, part, same, little, big}
@@ -17,7 +18,7 @@ use Rattle.base.specs.Bits.{and}
 use Rattle.base.specs.Sevens.{number, num_of}
 use Rattle.base.specs.declared.sevens.Num.{Num}
 use Rattle.base.proofs.BytesLaws.{part_at}
-use Rattle.base.proofs.ReadLaws.{num_some}
+use Rattle.base.proofs.SevensSteps.{num_some}
 use Rattle.base.proofs.SevensLaws.{number_bounds}
 use Rattle.sids.specs.Sid.{virtual}
 use Rattle.records.specs.Token.{Group, Token, unconfined}
@@ -30,11 +31,6 @@ use Rattle.records.specs.Unpacking.Outcome.{done}
 use Rattle.records.specs.Clean.{Such, Plain, PlainGroups, Keeping}
 use Rattle.records.proofs.UnpackLaws.{limited_bind, identity_is}
 use Rattle.records.proofs.RecordBytes.{group_is}
-
--- ---- claims
-
-pub unclaimed : {A : Type 0} → false ≡ true → A
-unclaimed e = let z : ◌≡◌ {A = ℕ} 0 1 = cc in absurd (omega arith)
 
 -- ---- the place after what was written
 
@@ -57,11 +53,11 @@ word_inside s at entry o out to next e = go (number 32 s at) refl e
 -- ---- an identity
 
 -- of another count than one
-pub count_plain : (s : List ℕ) (at : ℕ) (r : Num) → r ≡ num_of (limited 15 s at) → not r.ok ≡ false → (r.value ≡ 1 → ⊥) →
+pub count_plain : (s : List ℕ) (at : ℕ) (r : Num) → Some r ≡ num_of (limited 15 s at) → (r.value ≡ 1 → ⊥) →
     Such Plain (packed_identity s at)
 unfolding same
-count_plain s at r is h other =
-    rw (identity_is s at, num_some (limited 15 s at) r is (not-false r.ok h)) (go (number 48 s r.next))
+count_plain s at r is other =
+    rw (identity_is s at, num_some (limited 15 s at) r is) (go (number 48 s r.next))
   where
     last : (v : ℕ) (q : Read (List ℕ)) →
         Such Plain (bind q (λ ws end. some (1 ∷ r.value ∷ (big 6 v ++ each (little 4) ws)) end))
@@ -156,10 +152,10 @@ module _ (p : ℕ) (u : List ℕ) (gs : List Group) where
 
 pub people_keeping : (flags p : ℕ) (s : List ℕ) (at : ℕ) (entry : List ℕ) (o : ℕ) (out : List ℕ) (to next : ℕ) (r : Num) → flags ≡ 0 →
     outcome (packed_identity s at) entry o ≡ done out to next → Such Plain (packed_identity s at) →
-    r ≡ num_of (limited 256 s next) → not r.ok ≡ false → Such PlainGroups (many (group_at packed_reader) r.value s r.next) →
+    Some r ≡ num_of (limited 256 s next) → Such PlainGroups (many (group_at packed_reader) r.value s r.next) →
     Such Keeping (people_at packed_reader flags p s at)
 unfolding people_at confinement_at outcome
-people_keeping flags p s at entry o out to next r bare-flags e a is h b = rw bare-flags (go (packed_identity s at) e a)
+people_keeping flags p s at entry o out to next r bare-flags e a is b = rw bare-flags (go (packed_identity s at) e a)
   where
     k : List ℕ → ℕ → ℕ → Read Token
     k u n c = bind (many (group_at packed_reader) n s c)
@@ -176,5 +172,5 @@ people_keeping flags p s at entry o out to next r bare-flags e a is h b = rw bar
     go none i x = tt
     go (some u c) i x =
         let j : c ≡ next = cc in
-        rw (j, limited_bind (number 32 s next) 256 (k u), num_some (limited 256 s next) r is (not-false r.ok h))
+        rw (j, limited_bind (number 32 s next) 256 (k u), num_some (limited 256 s next) r is)
         (last u x (many (group_at packed_reader) r.value s r.next) b)

@@ -1,9 +1,15 @@
 -- The head of a SID: the byte 1, its count and its authority, highest byte first. Where the authority is one byte, the eight bytes are
--- those of one number, lowest first. Assumes nothing.
-use Prim.Native.Nat.{ℕ, ◌+◌, ◌*◌, ◌/◌, ◌<◌}
+-- those of one number, lowest first. A part of a buffer that is written at once (put_part), the last six bytes of eight (big_last).
+-- Assumes nothing.
+use Prim.Native.Nat.{ℕ, ◌+◌, ◌*◌, ◌/◌, ◌<◌, ◌≤◌}
 use mathlib.Core.Path.{◌≡◌}
-use mathlib.Core.List.{List, [], ◌∷◌}
+use mathlib.Core.List.{List, [], ◌∷◌, append_assoc}
+use native.Mathlib.Nat.{div-div-eq-div-mul}
 use native.Mathlib.Omega.{arith}
+use borrow.Rule.Slice.PartMut.{put_mid}
+use lib.ListN.{length, drop}
+use lib.Seq.{sets, sets-eq, drop-drop}
+use Rattle.std.specs.Int.{w64, to_be_bytes}
 use Rattle.base.specs.Bytes.{little, big}
 
 -- eight bytes in a row, byte by byte
@@ -25,3 +31,19 @@ head_little n v h k =
     rw (e1, e2, e3, e4, e5, e6, e7, z)
     (row _ _ _ _ _ _ _ _ _ _ _ _ _ _ _ _ (omega arith) (omega arith) (omega arith) (omega arith) (omega arith) (omega arith) (omega arith)
     (omega arith))
+
+-- what stands in a part of a buffer was written from its place
+pub put_part : (l : List ℕ) (o k : ℕ) (ys w : List ℕ) → ys ≡ w → length w ≡ k → o + k ≤ length l → put_mid o k l ys ≡ sets l o w
+put_part l o k ys w e n h =
+    let x = sets-eq w l o (omega arith) in
+    rw (e, x, append_assoc, n, drop-drop k o l)
+
+-- the last six of a number's eight bytes, highest first
+pub big_last : (v : ℕ) → drop 2 (to_be_bytes w64 v) ≡ big 6 v
+unfolding big
+big_last v =
+    let e2 : v / 256 / 256 ≡ v / 65536 = div-div-eq-div-mul v 256 256 in
+    let e3 : v / 65536 / 256 ≡ v / 16777216 = div-div-eq-div-mul v 65536 256 in
+    let e4 : v / 16777216 / 256 ≡ v / 4294967296 = div-div-eq-div-mul v 16777216 256 in
+    let e5 : v / 4294967296 / 256 ≡ v / 1099511627776 = div-div-eq-div-mul v 4294967296 256 in
+    rw (e2, e3, e4, e5)

@@ -3,22 +3,24 @@
 use Prim.Native.Nat.{ℕ, ◌+◌, ◌<◌}
 use mathlib.Core.Path.{◌≡◌, refl, sym, ap, ◌∙◌}
 use mathlib.Core.List.{List, ◌++◌}
-use mathlib.Core.Bool.{Bool, true, false, not, cond}
+use mathlib.Core.Bool.{Bool, true, cond}
 use native.Mathlib.Nat.{zero-add}
 use native.Mathlib.Omega.{arith}
-use borrow.Author.Tests.{not-true, not-false, eq-eqb, ne_eqb}
+use borrow.Author.Tests.{eq-eqb, ne_eqb}
 use lib.ListN.{length, replicate}
+use Rattle.std.specs.Prelude.{Option, None, Some, is_none}
+use Rattle.records.specs.declared.unpacking.Filled.{Filled}
 use lib.Seq.{sets}
 use Rattle.base.specs.Bytes.{Read, bind, little}
 use Rattle.base.specs.Bytes.Read.{none, some}
 use Rattle.base.specs.Sevens.{number, num_of}
 use Rattle.base.specs.declared.sevens.Num.{Num}
-use Rattle.base.proofs.ReadLaws.{num_some, num_none}
+use Rattle.base.proofs.SevensSteps.{num_some, num_none}
 use Rattle.records.specs.Token.{Token}
 use Rattle.records.specs.Fields.{people_at, ended, fields_bytes}
 use Rattle.records.specs.TokenRecord.{packed_reader, read_record}
 use Rattle.records.specs.FlatListing.{listing_of}
-use Rattle.records.specs.Unpacking.{written, outcome, limited, people_copied, Unpacks, Unpacked}
+use Rattle.records.specs.Unpacking.{written, outcome, limited, people_copied, filled, Unpacks, Unpacked}
 use Rattle.records.specs.Clean.{Such, Keeping, ReadKeeping}
 use Rattle.records.specs.Unpacking.Outcome.{refused, done}
 use Rattle.records.proofs.UnpackLaws.{then_some}
@@ -60,41 +62,37 @@ module _ (s entry exit : List ℕ) where
 
 -- version 1, flags and privileges, as they were read
 pub record Heading (s : List ℕ) (v f p : Num) : Type 0 where
-  pub version : v ≡ num_of (number 32 s 0)
-  pub versioned : not v.ok ≡ false
+  pub version : Some v ≡ num_of (number 32 s 0)
   pub one : v.value ≡ 1
-  pub flags : f ≡ num_of (limited 3 s v.next)
-  pub flagged : not f.ok ≡ false
-  pub privileges : p ≡ num_of (number 64 s f.next)
-  pub privileged : not p.ok ≡ false
+  pub flags : Some f ≡ num_of (limited 3 s v.next)
+  pub privileges : Some p ≡ num_of (number 64 s f.next)
 
-module _ (s entry exit : List ℕ) (v : Num) (is : v ≡ num_of (number 32 s 0)) where
-  pub record_unversioned : not v.ok ≡ true → Unpacks (read_record s) entry exit 0
+module _ (s entry exit : List ℕ) where
+  pub record_unversioned : None ≡ num_of (number 32 s 0) → Unpacks (read_record s) entry exit 0
   unfolding read_record
-  record_unversioned h = rw (num_none (number 32 s 0) v is (not-true v.ok h)) refl
+  record_unversioned is = rw (num_none (number 32 s 0) is) refl
 
-  pub record_version : not v.ok ≡ false → (v.value ≡ 1 → ⊥) → Unpacks (read_record s) entry exit 0
+  pub record_version : (v : Num) → Some v ≡ num_of (number 32 s 0) → (v.value ≡ 1 → ⊥) → Unpacks (read_record s) entry exit 0
   unfolding read_record
-  record_version found h = rw (num_some (number 32 s 0) v is (not-false v.ok found), ne_eqb v.value 1 h) refl
+  record_version v is h = rw (num_some (number 32 s 0) v is, ne_eqb v.value 1 h) refl
 
-record_is : (s : List ℕ) (v : Num) → v ≡ num_of (number 32 s 0) → not v.ok ≡ false → v.value ≡ 1 →
+record_is : (s : List ℕ) (v : Num) → Some v ≡ num_of (number 32 s 0) → v.value ≡ 1 →
     read_record s ≡ ended s (bind (limited 3 s v.next) (λ flags a. bind (number 64 s a) (λ p b. people_at packed_reader flags p s b)))
 unfolding read_record
-record_is s v is found one =
-    rw (num_some (number 32 s 0) v is (not-false v.ok found), eq-eqb v.value 1 one) (ap (ended s) (fields_is s v.next))
+record_is s v is one =
+    rw (num_some (number 32 s 0) v is, eq-eqb v.value 1 one) (ap (ended s) (fields_is s v.next))
 
-module _ (s entry exit : List ℕ) (v : Num) (is : v ≡ num_of (number 32 s 0)) (found : not v.ok ≡ false) (one : v.value ≡ 1)
-    (f : Num) (such : f ≡ num_of (limited 3 s v.next)) where
-  pub record_flags : not f.ok ≡ true → Unpacks (read_record s) entry exit 0
-  record_flags h = rw (record_is s v is found one, num_none (limited 3 s v.next) f such (not-true f.ok h)) refl
+module _ (s entry exit : List ℕ) (v : Num) (is : Some v ≡ num_of (number 32 s 0)) (one : v.value ≡ 1) where
+  pub record_flags : None ≡ num_of (limited 3 s v.next) → Unpacks (read_record s) entry exit 0
+  record_flags such = rw (record_is s v is one, num_none (limited 3 s v.next) such) refl
 
-  pub record_privileges : not f.ok ≡ false → (p : Num) → p ≡ num_of (number 64 s f.next) → not p.ok ≡ true →
+  pub record_privileges : (f : Num) → Some f ≡ num_of (limited 3 s v.next) → None ≡ num_of (number 64 s f.next) →
       Unpacks (read_record s) entry exit 0
-  record_privileges flagged p so h =
+  record_privileges f such so =
       rw (
-        record_is s v is found one,
-        num_some (limited 3 s v.next) f such (not-false f.ok flagged),
-        num_none (number 64 s f.next) p so (not-true p.ok h),
+        record_is s v is one,
+        num_some (limited 3 s v.next) f such,
+        num_none (number 64 s f.next) so,
       )
       refl
 
@@ -106,9 +104,9 @@ module _ {s : List ℕ} {v f p : Num} (h : Heading s v f p) where
   unfolding people
   record_people =
       rw (
-        record_is s v h.version h.versioned h.one,
-        num_some (limited 3 s v.next) f h.flags (not-false f.ok h.flagged),
-        num_some (number 64 s f.next) p h.privileges (not-false p.ok h.privileged),
+        record_is s v h.version h.one,
+        num_some (limited 3 s v.next) f h.flags,
+        num_some (number 64 s f.next) p h.privileges,
       )
 
   -- the buffer with flags and privileges in it
@@ -135,28 +133,19 @@ module _ {s : List ℕ} {v f p : Num} (h : Heading s v f p) where
       unfolding people
       record_keeping k x = rw record_people (ended_keeping s entry exit to next people (people_outcome ∙ e) k x)
 
--- where the buffer is long enough
-pub kept_fit : (fits : Bool) (q : Read Token) → fits ≡ true → ReadKeeping q → ReadKeeping (cond fits q none)
-kept_fit fits q e x = rw e x
-
 -- ---- a refusal leaves the buffer empty
 
+pub none_filled : (r : Option Filled) → is_none r ≡ true → filled r ≡ 0
+none_filled None e = refl
+none_filled (Some r) e = cc
+
 -- a listing has bytes
-listing_some : (t : Token) → 0 < length (listing_of t)
+pub listing_some : (t : Token) → 0 < length (listing_of t)
 unfolding listing_of fields_bytes little
 listing_some t = omega arith
-
--- where the buffer may be too short nothing is read
-pub unpacked_unfit : (fits : Bool) (q : Read Token) (entry exit : List ℕ) → fits ≡ false → exit ≡ replicate (length entry) 0 →
-    Unpacked (cond fits q none) entry exit 0
-unpacked_unfit fits q entry exit e z = rw e (refl, z)
 
 module _ (fits : Bool) (fit : fits ≡ true) (entry exit : List ℕ) (r : ℕ) where
   pub unpacked_none : (q : Read Token) (last : List ℕ) → Unpacks q entry exit r → r ≡ 0 → last ≡ replicate (length exit) 0 →
       length exit ≡ length entry → Unpacked (cond fits q none) entry last r
   unpacked_none none last u z e l = rw fit (u, e ∙ ap (λ (n : ℕ). replicate n 0) l)
   unpacked_none (some t end) last u z e l = absurd (omega (arith, u.0, listing_some t))
-
-  pub unpacked_some : (q : Read Token) → Unpacks q entry exit r → (r ≡ 0 → ⊥) → Unpacked (cond fits q none) entry exit r
-  unpacked_some none u h = absurd (h u)
-  unpacked_some (some t end) u h = rw fit u

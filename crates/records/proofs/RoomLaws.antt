@@ -1,23 +1,22 @@
 -- Laws of the room for what is unpacked.
 -- In order: what a step leaves of the room (room_left, room_for, room_same, room_whole, fits_fourfold, quarter_fits), what
 -- a step wrote (refused_within, Counted, counted_room, within_after), a number moves on (number_past,
--- limited_past), a buffer that is cleared (fill_more, fill_none, filled). Assumes nothing.
-use Prim.Native.Nat.{ℕ, zero, suc, ◌+◌, ◌-◌, ◌*◌, ◌/◌, ◌<◌, ◌≤◌}
-use mathlib.Core.Path.{◌≡◌, refl, sym, ap, ◌∙◌}
-use mathlib.Core.List.{List, ◌++◌, append-nil}
+-- limited_past). Assumes nothing.
+use Prim.Native.Nat.{ℕ, ◌+◌, ◌*◌, ◌/◌, ◌<◌, ◌≤◌}
+use mathlib.Core.Path.{◌≡◌, refl, sym}
+use mathlib.Core.List.{List}
 use mathlib.Core.Logic.{◌⊎◌, inl, inr}
-use mathlib.Core.Bool.{Bool, true, false, not, ◌||◌}
-use native.Mathlib.Numerals.{add-one}
+use mathlib.Core.Bool.{Bool, true, false, ◌||◌}
 use native.Mathlib.Omega.{arith}
-use borrow.Author.Tests.{not-false, le-leb, lt-leb, leb-true, leb-false}
+use borrow.Author.Tests.{le-leb, lt-leb, leb-true, leb-false}
 use lib.Dec.{leb}
-use lib.ListN.{length, set, drop, replicate, length-replicate}
-use lib.Seq.{sets, sets-eq, drop-length}
+use Rattle.std.specs.Prelude.{Option, None, Some}
 use Rattle.base.specs.Bytes.{only}
 use Rattle.base.specs.Bytes.Read.{some}
 use Rattle.base.specs.Sevens.{number, num_of}
 use Rattle.base.specs.declared.sevens.Num.{Num}
-use Rattle.base.proofs.ReadLaws.{bound, allowed, num_some}
+use Rattle.base.proofs.ReadLaws.{bound, allowed}
+use Rattle.base.proofs.SevensSteps.{num_some}
 use Rattle.base.proofs.SevensLaws.{number_bounds}
 use Rattle.records.specs.declared.unpacking.Step.{Step}
 use Rattle.records.specs.Unpacking.{limited, Roomy, Within, room_fits}
@@ -72,11 +71,8 @@ quarter_fits size room = go (leb size (room / 4)) refl
     go false e = sym (lt-leb (4 * size) room (omega (arith, leb-false size (room / 4) e)))
 
 -- of a refusal nothing is asked
-pub refused_within : {o at most : ℕ} → Within (record { ok = false; next = 0; to = 0; clean = false }) o at most
-refused_within = record { few = λ e. absurd (never e); fourfold = λ e. absurd (never e) }
-  where
-    never : false ≡ true → ⊥
-    never e = let z : ◌≡◌ {A = ℕ} 0 1 = cc in omega arith
+pub refused_within : {o at most : ℕ} → Within None o at most
+refused_within = record { few = tt; fourfold = tt }
 
 -- a count after an identity, as four bytes: they have room, and at most four bytes are written for each byte read
 pub record Counted (room o at : ℕ) (w : Step) (n : Num) : Type 0 where
@@ -84,49 +80,34 @@ pub record Counted (room o at : ℕ) (w : Step) (n : Num) : Type 0 where
   pub fourfold : w.to + 4 + 4 * at ≤ o + 4 * n.next
   pub inside : w.to + 4 ≤ room
 
-pub counted_room : {room o size at most : ℕ} {w : Step} {n : Num} → Roomy room o size at most → 72 ≤ most → Within w o at 68 →
-    not w.ok ≡ false → w.next < n.next → n.next ≤ size → Counted room o at w n
-counted_room {o = o} {at = at} {w = w} {n = n} r m i ok past inside =
-    let few = i.few (not-false w.ok ok) in
-    let fourfold : w.to + 4 + 4 * at ≤ o + 4 * n.next = omega (arith, i.fourfold (not-false w.ok ok)) in
-    record { few = few; fourfold = fourfold; inside = room_for r n.next inside fourfold (omega (arith, few)) }
+pub counted_room : {room o size at most : ℕ} {w : Step} {n : Num} → Roomy room o size at most → 72 ≤ most → Within (Some w) o at 68 →
+    w.next < n.next → n.next ≤ size → Counted room o at w n
+counted_room {o = o} {at = at} {w = w} {n = n} r m i past inside =
+    let few : w.to ≤ o + 68 = i.few in
+    let four : w.to + 4 * at ≤ o + 4 * w.next = i.fourfold in
+    let fourfold : w.to + 4 + 4 * at ≤ o + 4 * n.next = omega arith in
+    record { few = few; fourfold = fourfold; inside = room_for r n.next inside fourfold (omega arith) }
 
 -- a step after what was read and written before it
-pub within_after : {r : Step} {o at most to next less : ℕ} → to + 4 * at ≤ o + 4 * next → to + less ≤ o + most →
+pub within_after : {r : Option Step} {o at most to next less : ℕ} → to + 4 * at ≤ o + 4 * next → to + less ≤ o + most →
     Within r to next less → Within r o at most
-within_after p q w =
-    record { few = λ e. omega (arith, w.few e); fourfold = λ e. omega (arith, w.fourfold e) }
+within_after {r = None} p q w = refused_within
+within_after {r = Some r} {o = o} {at = at} {most = most} {to = to} {next = next} {less = less} p q w =
+    let few : r.to ≤ to + less = w.few in
+    let fourfold : r.to + 4 * next ≤ to + 4 * r.next = w.fourfold in
+    record { few = omega arith; fourfold = omega arith }
 
 -- ---- a number moves on
 
-pub number_past : (bits : ℕ) (s : List ℕ) (at : ℕ) (r : Num) → r ≡ num_of (number bits s at) → not r.ok ≡ false → at < r.next
-number_past bits s at r e h =
-    (number_bounds bits s at r.value r.next (num_some (number bits s at) r e (not-false r.ok h))).0
+pub number_past : (bits : ℕ) (s : List ℕ) (at : ℕ) (r : Num) → Some r ≡ num_of (number bits s at) → at < r.next
+number_past bits s at r e =
+    (number_bounds bits s at r.value r.next (num_some (number bits s at) r e)).0
 
-pub limited_past : (most : ℕ) (s : List ℕ) (at : ℕ) (r : Num) → r ≡ num_of (limited most s at) → not r.ok ≡ false → at < r.next
-limited_past most s at r e h =
-    let q = num_some (limited most s at) r e (not-false r.ok h) in
+pub limited_past : (most : ℕ) (s : List ℕ) (at : ℕ) (r : Num) → Some r ≡ num_of (limited most s at) → at < r.next
+limited_past most s at r e =
+    let q = num_some (limited most s at) r e in
     let b = bound (number 32 s at) (λ n a. only (leb n most) (some n a)) r.value r.next q in
     let same : some b.a b.next ≡ some r.value r.next =
     (allowed (leb b.a most) (some b.a b.next) r.value r.next b.then).1 in
     let k : b.next ≡ r.next = cc in
     omega (arith, (number_bounds 32 s at b.a b.next b.first).0)
-
--- ---- a buffer that is cleared
-
-pub fill_more : (out : List ℕ) (i n : ℕ) → 0 < n → sets out i (replicate n 0) ≡ sets (set out i 0) (i + 1) (replicate (n - 1) 0)
-fill_more out i zero h = absurd (omega arith)
-fill_more out i (suc n) h =
-    let e : n ≡ suc n - 1 = omega arith in
-    rw add-one (ap (λ (m : ℕ). sets (set out i 0) (suc i) (replicate m 0)) e)
-
-pub fill_none : (out : List ℕ) (i n : ℕ) → n ≡ 0 → sets out i (replicate n 0) ≡ out
-fill_none out i n e = rw e
-
-pub filled : (out : List ℕ) → sets out 0 (replicate (length out) 0) ≡ replicate (length out) 0
-filled out =
-    let l : length {A = ℕ} (replicate (length out) 0) ≡ length out = length-replicate (length out) 0 in
-    let x : 0 + length {A = ℕ} (replicate (length out) 0) ≡ length out = omega arith in
-    sets-eq (replicate (length out) 0) out 0 (omega arith)
-    ∙ ap (λ (r : List ℕ). replicate (length out) 0 ++ r) (ap (λ (k : ℕ). drop k out) x ∙ drop-length out)
-    ∙ append-nil (replicate (length out) 0)

@@ -4,19 +4,20 @@
 use Prim.Native.Nat.{ℕ, zero, suc, ◌+◌, ◌-◌, ◌<◌, ◌≤◌}
 use mathlib.Core.Path.{◌≡◌, refl, ap, ap₂, ◌∙◌}
 use mathlib.Core.List.{List, [], ◌∷◌, ◌++◌}
-use mathlib.Core.Bool.{Bool, true, false, not}
+use mathlib.Core.Bool.{Bool, true, false}
 use native.Mathlib.Nat.{add-zero}
 use native.Mathlib.Omega.{arith}
-use borrow.Author.Tests.{not-true, not-false, le-leb, lt-leb, eq-eqb, ne_eqb}
+use borrow.Author.Tests.{le-leb, lt-leb, eq-eqb, ne_eqb}
 use lib.ListN.{length, length-append}
 use lib.Seq.{sets}
 use lib.Dec.{leb}
+use Rattle.std.specs.Prelude.{None, Some}
 use Rattle.base.specs.Bytes.{Read, bind, only, little, big}
 use Rattle.base.specs.Bytes.Read.{none, some}
 use Rattle.base.specs.Bits.{and}
 use Rattle.base.specs.Sevens.{number, num_of}
 use Rattle.base.specs.declared.sevens.Num.{Num}
-use Rattle.base.proofs.ReadLaws.{num_none, num_some}
+use Rattle.base.proofs.SevensSteps.{num_none, num_some}
 use Rattle.base.proofs.WriteLaws.{sets_append}
 use Rattle.records.specs.Token.{confined}
 use Rattle.records.specs.Fields.{many, each}
@@ -26,18 +27,22 @@ use Rattle.records.specs.Unpacking.Outcome.{refused, done}
 
 -- ---- numbers as the code answers them
 
--- a number of at most so much
-module _ (most : ℕ) (r : Num) where
-  pub limited_over : (q : Read ℕ) → r ≡ num_of q → most < r.value →
-      record { ok = false; value = 0; next = 0 } ≡ num_of (bind q (λ n a. only (leb n most) (some n a)))
-  unfolding num_of
-  limited_over none e h = refl
-  limited_over (some v n) e h = let k : r.value ≡ v = ap (λ (x : Num). x.value) e in rw (lt-leb v most (omega arith))
+num_of_none : None ≡ num_of none
+unfolding num_of
+num_of_none = refl
 
-  pub limited_within : (q : Read ℕ) → r ≡ num_of q → r.value ≤ most → r ≡ num_of (bind q (λ n a. only (leb n most) (some n a)))
-  unfolding num_of
-  limited_within none e h = e
-  limited_within (some v n) e h = let k : r.value ≡ v = ap (λ (x : Num). x.value) e in rw (le-leb v most (omega arith)) e
+-- a number of at most so much
+pub limited_none : (most : ℕ) (q : Read ℕ) → None ≡ num_of q → None ≡ num_of (bind q (λ n a. only (leb n most) (some n a)))
+limited_none most q e = rw (num_none q e) (num_of_none)
+
+module _ (most : ℕ) (r : Num) where
+  pub limited_over : (q : Read ℕ) → Some r ≡ num_of q → most < r.value →
+      None ≡ num_of (bind q (λ n a. only (leb n most) (some n a)))
+  limited_over q e h = rw (num_some q r e, lt-leb r.value most h) (num_of_none)
+
+  pub limited_within : (q : Read ℕ) → Some r ≡ num_of q → r.value ≤ most →
+      Some r ≡ num_of (bind q (λ n a. only (leb n most) (some n a)))
+  limited_within q e h = rw (num_some q r e, le-leb r.value most h) (e ∙ rw (num_some q r e))
 
 -- a test inside is a test outside
 pub limited_bind : {A : Type 0} (q : Read ℕ) (most : ℕ) (k : ℕ → ℕ → Read A) →
@@ -96,27 +101,27 @@ module _ (f : List ℕ → ℕ → Read (List ℕ)) (s : List ℕ) (at : ℕ) (o
 
 -- ---- a number in a row of readings
 
-module _ (s : List ℕ) (at : ℕ) (out : List ℕ) (o : ℕ) (r : Num) (is : r ≡ num_of (number 32 s at)) where
-  pub word_refused : not r.ok ≡ true → outcome (word_at s at) out o ≡ refused
+module _ (s : List ℕ) (at : ℕ) (out : List ℕ) (o : ℕ) where
+  pub word_refused : None ≡ num_of (number 32 s at) → outcome (word_at s at) out o ≡ refused
   unfolding outcome
-  word_refused h = rw (num_none (number 32 s at) r is (not-true r.ok h))
+  word_refused is = rw (num_none (number 32 s at) is)
 
-  pub word_done : not r.ok ≡ false → outcome (word_at s at) out o ≡ done (sets out o (little 4 r.value)) (o + 4) r.next
+  pub word_done : (r : Num) → Some r ≡ num_of (number 32 s at) →
+      outcome (word_at s at) out o ≡ done (sets out o (little 4 r.value)) (o + 4) r.next
   unfolding little outcome
-  word_done h = rw (num_some (number 32 s at) r is (not-false r.ok h))
+  word_done r is = rw (num_some (number 32 s at) r is)
 
 -- a count and what follows it
-module _ (most : ℕ) (s : List ℕ) (at : ℕ) (k : ℕ → ℕ → Read (List ℕ)) (out : List ℕ) (o : ℕ) (r : Num)
-    (is : r ≡ num_of (limited most s at)) where
-  pub counted_refused : not r.ok ≡ true → outcome (counted most s at k) out o ≡ refused
+module _ (most : ℕ) (s : List ℕ) (at : ℕ) (k : ℕ → ℕ → Read (List ℕ)) (out : List ℕ) (o : ℕ) where
+  pub counted_refused : None ≡ num_of (limited most s at) → outcome (counted most s at k) out o ≡ refused
   unfolding outcome
-  counted_refused h = rw (num_none (limited most s at) r is (not-true r.ok h))
+  counted_refused is = rw (num_none (limited most s at) is)
 
-  pub counted_done : not r.ok ≡ false →
+  pub counted_done : (r : Num) → Some r ≡ num_of (limited most s at) →
       outcome (counted most s at k) out o ≡ outcome (k r.value r.next) (sets out o (little 4 r.value)) (o + 4)
   unfolding little
-  counted_done h =
-      rw (num_some (limited most s at) r is (not-false r.ok h)) (then_some (k r.value) out o (little 4 r.value) r.next)
+  counted_done r is =
+      rw (num_some (limited most s at) r is) (then_some (k r.value) out o (little 4 r.value) r.next)
 
 -- ---- an identity
 
@@ -190,30 +195,30 @@ unfolding packed_identity
 identity_is s at = limited_bind (number 32 s at) 15
     (λ n a. bind (number 48 s a) (λ v b. bind (many (number 32) n s b) (λ ws end. some (1 ∷ n ∷ (big 6 v ++ each (little 4) ws)) end)))
 
-module _ (s : List ℕ) (at : ℕ) (out : List ℕ) (o : ℕ) (r : Num) (is : r ≡ num_of (limited 15 s at)) where
-  pub identity_uncounted : not r.ok ≡ true → outcome (packed_identity s at) out o ≡ refused
+module _ (s : List ℕ) (at : ℕ) (out : List ℕ) (o : ℕ) where
+  pub identity_uncounted : None ≡ num_of (limited 15 s at) → outcome (packed_identity s at) out o ≡ refused
   unfolding outcome
-  identity_uncounted h = rw (identity_is s at, num_none (limited 15 s at) r is (not-true r.ok h))
+  identity_uncounted is = rw (identity_is s at, num_none (limited 15 s at) is)
 
-  module _ (t : Num) (such : t ≡ num_of (number 48 s r.next)) (h : not r.ok ≡ false) where
-    pub identity_unnamed : not t.ok ≡ true → outcome (packed_identity s at) out o ≡ refused
+  module _ (r : Num) (is : Some r ≡ num_of (limited 15 s at)) where
+    pub identity_unnamed : None ≡ num_of (number 48 s r.next) → outcome (packed_identity s at) out o ≡ refused
     unfolding outcome
     identity_unnamed k =
         rw (
           identity_is s at,
-          num_some (limited 15 s at) r is (not-false r.ok h),
-          num_none (number 48 s r.next) t such (not-true t.ok k),
+          num_some (limited 15 s at) r is,
+          num_none (number 48 s r.next) k,
         )
 
-    pub identity_done : not t.ok ≡ false →
+    pub identity_done : (t : Num) → Some t ≡ num_of (number 48 s r.next) →
         outcome (packed_identity s at) out o
         ≡ outcome (copied word_at r.value s t.next) (sets out o (1 ∷ r.value ∷ big 6 t.value)) (o + 8)
     unfolding big
-    identity_done k =
+    identity_done t k =
         rw (
           identity_is s at,
-          num_some (limited 15 s at) r is (not-false r.ok h),
-          num_some (number 48 s r.next) t such (not-false t.ok k),
+          num_some (limited 15 s at) r is,
+          num_some (number 48 s r.next) t k,
           identity_words s r.value
               t.value t.next,
         )

@@ -1,5 +1,5 @@
 -- What unpacking leaves in a buffer: a reading of bytes, written as it goes. For the contracts of the private readers.
-use Rattle.std.specs.Prelude.{ℕ, zero, suc, ◌+◌, ◌*◌, ◌≤◌, ◌≡◌, List, [], ◌++◌, ◌⊎◌, Bool, true, false, cond, ◌||◌, length, replicate, leb}
+use Rattle.std.specs.Prelude.{ℕ, zero, suc, ◌+◌, ◌*◌, ◌≤◌, ◌≡◌, List, [], ◌++◌, ◌⊎◌, Bool, true, false, ◌||◌, length, replicate, leb, Option, None, Some, IfSome}
 use Rattle.std.proofs.lemmas.List.Edits.{sets}
 use Rattle.base.specs.Bytes.{Read, bind, only, little}
 use Rattle.base.specs.Bytes.Read.{none, some}
@@ -8,6 +8,7 @@ use Rattle.records.specs.Token.{Token, confined}
 use Rattle.records.specs.TokenRecord.{packed_identity}
 use Rattle.records.specs.FlatListing.{listing_of}
 use Rattle.records.specs.declared.unpacking.Step.{Step}
+use Rattle.records.specs.declared.unpacking.Filled.{Filled}
 
 -- a reading as the bytes that are written of it
 abbrev pub written : {A : Type 0} → (A → List ℕ) → Read A → Read (List ℕ)
@@ -33,8 +34,9 @@ outcome none out o = refused
 outcome (some w end) out o = done (sets out o w) (o + length w) end
 
 -- the same as the code answers it, with the buffer that it leaves
-abbrev pub left : Step → List ℕ → Outcome
-left r out = cond r.ok (done out r.to r.next) refused
+abbrev pub left : Option Step → List ℕ → Outcome
+left None out = refused
+left (Some r) out = done out r.to r.next
 
 -- ---- the parts of a packed record, as bytes of a flat listing
 
@@ -67,9 +69,9 @@ pub record Roomy (room o size at most : ℕ) : Type 0 where
   pub fits : (o + 4 * size ≤ room + 4 * at) ⊎ (o + most ≤ room)
 
 -- where a step read anything, it wrote at most so many bytes, and at most four for each byte that it read
-pub record Within (r : Step) (o at most : ℕ) : Type 0 where
-  pub few : r.ok ≡ true → r.to ≤ o + most
-  pub fourfold : r.ok ≡ true → r.to + 4 * at ≤ o + 4 * r.next
+pub record Within (r : Option Step) (o at most : ℕ) : Type 0 where
+  pub few : IfSome r (λ w. w.to ≤ o + most)
+  pub fourfold : IfSome r (λ w. w.to + 4 * at ≤ o + 4 * w.next)
 
 -- whether a buffer is long enough for the listing of a record, by their lengths
 abbrev pub room_fits : ℕ → ℕ → Bool
@@ -97,6 +99,11 @@ groups_copied flags s at = counted 256 s at (λ n a. then (copied (member_copied
 -- user, groups, and where confined the confinement
 unfoldable pub people_copied : ℕ → List ℕ → ℕ → Read (List ℕ)
 people_copied flags s at = then (packed_identity s at) (groups_copied flags s)
+
+-- the length of the listing that a buffer holds, 0 where there is none
+abbrev pub filled : Option Filled → ℕ
+filled None = 0
+filled (Some r) = r.length
 
 -- the whole: the length of the listing, which stands at the front of the buffer; 0 where the record is misshapen, and then nothing is said of
 -- the buffer

@@ -9,13 +9,9 @@ pub(crate) fn put_little(out: &mut [u8], o: usize, n: usize, v: u64)
     ensures { out.new ≡ sets out.old o (little n v) }
 {
     let mut rest = v;
-    let mut to = o;
-    let mut more = n;
-    while 0 < more {
+    for to in o..o + n {
         out[to] = (rest % 256) as u8;
-        rest = rest / 256;
-        to += 1;
-        more -= 1;
+        rest /= 256;
     }
 }
 
@@ -24,17 +20,7 @@ fn put_big(out: &mut [u8], o: usize, v: u64)
     requires { o + 6 ≤ length out.old }
     ensures { out.new ≡ sets out.old o (big 6 v) }
 {
-    let a = v / 256;
-    let b = a / 256;
-    let c = b / 256;
-    let d = c / 256;
-    let e = d / 256;
-    out[o] = (e % 256) as u8;
-    out[o + 1] = (d % 256) as u8;
-    out[o + 2] = (c % 256) as u8;
-    out[o + 3] = (b % 256) as u8;
-    out[o + 4] = (a % 256) as u8;
-    out[o + 5] = (v % 256) as u8;
+    out[o..o + 6].copy_from_slice(&v.to_be_bytes()[2..]);
 }
 
 // Writes the head of a SID from place `o`: the byte 1, its count and its authority. An authority of

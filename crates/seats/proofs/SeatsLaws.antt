@@ -1,4 +1,5 @@
--- The seats of a listing are the members of its crowd. In order: a seat by what stands there; the crowd from its first seat; the members
+-- The seats of a listing are the members of its crowd. In order: a seat by what stands there, and as the code
+-- answers it; the crowd from its first seat; the members
 -- left after a seat; one turn of a walk from seat to seat.
 -- Assumes nothing.
 use Prim.Native.Nat.{ℕ, zero, suc, ◌+◌, ◌<◌, ◌≤◌}
@@ -6,14 +7,15 @@ use mathlib.Core.Bool.{Bool, true, false, cond}
 use mathlib.Core.List.{List, [], ◌∷◌}
 use mathlib.Core.Path.{◌≡◌, refl, sym, ap, ◌∙◌}
 use native.Mathlib.Omega.{arith}
-use borrow.Author.Tests.{ltb-true, le-ltb, eq-eqb, ne_eqb}
+use borrow.Author.Tests.{ltb-true, eqb-true, eqb-false, le-ltb, eq-eqb, ne_eqb}
 use lib.Dec.{ltb, eqb}
 use lib.ListN.{length}
+use Rattle.std.specs.Prelude.{None, Some}
 use Rattle.base.specs.Bytes.{u32_at, part}
 use Rattle.sids.proofs.SidLaws.{sid_end_short}
 use Rattle.sids.specs.Sid.{sid_end}
 use Rattle.records.specs.Crowd.{Member, plain, shown, members_at, crowd_at}
-use Rattle.seats.specs.Seats.{allow_word, deny_word, no_seat, onward, first_seat, seat_at, seated, from_seat}
+use Rattle.seats.specs.Seats.{allow_word, deny_word, no_seat, seat_found, onward, first_seat, seat_at, seated, from_seat}
 use Rattle.seats.specs.declared.seats.Seat.{Seat}
 
 -- ---- a seat
@@ -44,6 +46,29 @@ module _ (s : List ℕ) (at e : ℕ) (ends : e ≡ sid_end s at) (some : e ≡ 0
       seat_at true s at ≡ record { from = at; to = e; next = n; allows = x; denies = y }
   unfolding seat_at
   seat_at_word n x y p q r = rw (← ends, ne_eqb e 0 some, p, q, r)
+
+-- ---- a seat as the code answers it
+
+pub no_seat_found : (x : Seat) → None ≡ seat_found x → x.to ≡ 0
+no_seat_found x p = go (eqb x.to 0) refl p
+  where
+    go : (t : Bool) → eqb x.to 0 ≡ t → None ≡ cond t None (Some x) → x.to ≡ 0
+    go true q p = eqb-true x.to 0 q
+    go false q p = cc
+
+-- a seat that was found is that of the definition, and stands somewhere
+pub record SeatFound (x y : Seat) : Type 0 where
+  pub is : x ≡ y
+  pub there : x.to ≡ 0 → ⊥
+
+pub some_seat_found : (x y : Seat) → Some x ≡ seat_found y → SeatFound x y
+some_seat_found x y p = go (eqb y.to 0) refl p
+  where
+    go : (t : Bool) → eqb y.to 0 ≡ t → Some x ≡ cond t None (Some y) → SeatFound x y
+    go true q p = cc
+    go false q p =
+        let i : x ≡ y = cc in
+        record { is = i; there = λ z. eqb-false y.to 0 q (sym (ap (λ (v : Seat). v.to) i) ∙ z) }
 
 -- ---- the members after a place past the end
 

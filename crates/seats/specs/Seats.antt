@@ -1,6 +1,6 @@
 -- A flat listing read in place, seat by seat: what the search through a token sees. Nothing here decides an answer; SeatsLaws shows that
 -- the seats are the members of `crowd_at`.
-use Rattle.std.specs.Prelude.{ℕ, ◌+◌, ◌≤◌, List, [], ◌∷◌, Bool, true, false, cond, not, ◌&&◌, length, ltb, eqb}
+use Rattle.std.specs.Prelude.{ℕ, ◌+◌, ◌≤◌, List, [], ◌∷◌, Bool, true, false, cond, not, ◌&&◌, length, ltb, eqb, Option, None, Some}
 use Rattle.base.specs.Bytes.{u32_at, part}
 use Rattle.base.specs.Bits.{has}
 use Rattle.sids.specs.Sid.{sid_end}
@@ -17,6 +17,10 @@ deny_word a = has a 0x14
 -- no SID stands there
 abbrev pub no_seat : Seat
 no_seat = record { from = 0; to = 0; next = 0; allows = false; denies = false }
+
+-- a seat as the code answers it
+abbrev pub seat_found : Seat → Option Seat
+seat_found x = cond (eqb x.to 0) None (Some x)
 
 -- the place so many bytes on, or the end of the bytes
 abbrev pub onward : List ℕ → ℕ → ℕ → ℕ

@@ -20,10 +20,8 @@ fn mixed(w: &[u8]) -> u64
         return both;
     }
     let mut x = both ^ base::u64_at(w, 16);
-    let mut i: usize = 24;
-    while i < k {
-        x = x ^ base::u64_at(w, i);
-        i += 8;
+    for i in (24..k).step_by(8) {
+        x ^= base::u64_at(w, i);
     }
     x
 }

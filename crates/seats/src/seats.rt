@@ -1,12 +1,13 @@
 // A token's flat listing, read in place, seat by seat.
-ghost use Rattle.std.specs.Prelude.{◌≡◌, ◌≤◌, length};
-ghost use Rattle.seats.specs.Seats.{allow_word, deny_word, no_seat, onward};
-ghost use Rattle.seats.specs.Seats.{first_seat, seat_at, SeatLies};
+// kept: `attrs`, a truth, says that attribute words stand behind members, for `seat_at` of specs asks it.
+ghost use Rattle.std.specs.Prelude.{◌≡◌, ◌≤◌, length, IfSome};
+ghost use Rattle.seats.specs.Seats.{allow_word, deny_word, onward};
+ghost use Rattle.seats.specs.Seats.{first_seat, seat_at, seat_found, SeatLies};
 
 use records::Attributes;
 
 // An identity of a listing: its SID stands from `from` to `to`, and `next` is the place after what
-// belongs to it. All 0 where no SID stands.
+// belongs to it.
 #[derive(Clone, Copy)]
 pub struct Seat {
     pub from: usize,
@@ -20,10 +21,7 @@ pub struct Seat {
 fn allows(a: Attributes) -> bool
     ensures { result ≡ allow_word a.0 }
 {
-    if a.0 & 0x4 == 0 {
-        return false;
-    }
-    a.0 & 0x10 == 0
+    a.0 & 0x4 != 0 && a.0 & 0x10 == 0
 }
 
 // Whether a group with these attributes matches for deny.
@@ -45,64 +43,46 @@ fn onward(s: &[u8], e: usize, n: usize) -> usize
     e + n
 }
 
-// No identity.
-fn no_seat() -> Seat
-    ensures { result ≡ no_seat }
+// The first identity of a crowd, which a count follows. None where no SID stands.
+pub fn first_seat(s: &[u8], at: usize) -> Option<Seat>
+    ensures value { result ≡ seat_found (first_seat s.now at) }
+    ensures seat_lies { IfSome result (λ x. SeatLies (length s.now) x) }
 {
-    Seat {
-        from: 0,
-        to: 0,
-        next: 0,
-        allows: false,
-        denies: false,
-    }
-}
-
-// The first identity of a crowd, which a count follows.
-pub fn first_seat(s: &[u8], at: usize) -> Seat
-    ensures value { result ≡ first_seat s.now at }
-    ensures seat_lies { SeatLies (length s.now) result }
-{
-    let e = sids::sid_end(s, at);
-    if e == 0 {
-        return no_seat();
-    }
-    let next = onward(s, e, 4);
-    Seat {
+    let to = sids::sid_end(s, at)?;
+    let next = onward(s, to, 4);
+    Some(Seat {
         from: at,
-        to: e,
+        to,
         next,
         allows: true,
         denies: true,
-    }
+    })
 }
 
-// The member at a place: with an attribute word after it where `attrs`, else for both.
-pub fn seat_at(s: &[u8], at: usize, attrs: bool) -> Seat
-    ensures value { result ≡ seat_at attrs s.now at }
-    ensures seat_lies { SeatLies (length s.now) result }
+// The member at a place: with an attribute word after it where `attrs`, else for both. None where no
+// SID stands.
+pub fn seat_at(s: &[u8], at: usize, attrs: bool) -> Option<Seat>
+    ensures value { result ≡ seat_found (seat_at attrs s.now at) }
+    ensures seat_lies { IfSome result (λ x. SeatLies (length s.now) x) }
 {
-    let e = sids::sid_end(s, at);
-    if e == 0 {
-        return no_seat();
-    }
+    let to = sids::sid_end(s, at)?;
     if !attrs {
-        return Seat {
+        return Some(Seat {
             from: at,
-            to: e,
-            next: e,
+            to,
+            next: to,
             allows: true,
             denies: true,
-        };
+        });
     }
     // "both 32 bits and must never change places": an attribute word is no rights mask.
-    let word = Attributes(base::u32_at(s, e));
-    let next = onward(s, e, 4);
-    Seat {
+    let word = Attributes(base::u32_at(s, to));
+    let next = onward(s, to, 4);
+    Some(Seat {
         from: at,
-        to: e,
+        to,
         next,
         allows: allows(word),
         denies: denies(word),
-    }
+    })
 }

@@ -1,41 +1,35 @@
 // One identity at a place of lent bytes, and the two virtual identities.
-ghost use Rattle.std.specs.Prelude.{◌≡◌, ◌≤◌, length};
-ghost use Rattle.base.specs.Bytes.{same};
+ghost use Rattle.std.specs.Prelude.{◌≡◌, ◌≤◌, length, IfSome};
+ghost use Rattle.base.specs.Bytes.{same, found};
 ghost use Rattle.sids.specs.Sid.{sid_end, is_sid, owner_rights, virtual, single};
 
-// The place after the SID that stands whole at `at`, or 0 where none does.
-pub fn sid_end(s: &[u8], at: usize) -> usize
-    ensures value { result ≡ sid_end s.now at }
-    ensures upper_bound { result ≤ length s.now }
+// The place after the SID that stands whole at `at`.
+pub fn sid_end(s: &[u8], at: usize) -> Option<usize>
+    ensures value { result ≡ found (sid_end s.now at) }
+    ensures upper_bound { IfSome result (λ e. e ≤ length s.now) }
 {
-    if s.len() < 8 {
-        return 0;
-    }
-    if s.len() - 8 < at {
-        return 0;
+    if s.len() < 8 || s.len() - 8 < at {
+        return None;
     }
     if s[at] != 1 {
-        return 0;
+        return None;
     }
-    let n = base::wide(s[at + 1]) as usize;
+    let n = usize::from(s[at + 1]);
     if 15 < n {
-        return 0;
+        return None;
     }
-    if s.len() < at + 8 + 4 * n {
-        return 0;
+    let e = at + 8 + 4 * n;
+    if s.len() < e {
+        return None;
     }
-    at + 8 + 4 * n
+    Some(e)
 }
 
 // Whether the bytes are exactly one SID.
 pub fn is_sid(s: &[u8]) -> bool
     ensures { result ≡ is_sid s.now }
 {
-    let e = sid_end(s, 0);
-    if e == 0 {
-        return false;
-    }
-    e == s.len()
+    sid_end(s, 0) == Some(s.len())
 }
 
 // Whether a SID has one word and an authority below 2^32, given as its four bytes stand: the words
@@ -43,13 +37,7 @@ pub fn is_sid(s: &[u8]) -> bool
 fn is_single(w: &[u8], authority: u32, word: u32) -> bool
     ensures { result ≡ same w.now (single authority word) }
 {
-    if w.len() != 12 {
-        return false;
-    }
-    if base::u32_at(w, 8) != word {
-        return false;
-    }
-    if base::u32_at(w, 4) != authority {
+    if w.len() != 12 || base::u32_at(w, 8) != word || base::u32_at(w, 4) != authority {
         return false;
     }
     base::u32_at(w, 0) == 257
@@ -66,8 +54,5 @@ pub fn is_owner_rights(w: &[u8]) -> bool
 pub fn is_virtual(w: &[u8]) -> bool
     ensures { result ≡ virtual w.now }
 {
-    if is_owner_rights(w) {
-        return true;
-    }
-    is_single(w, 0x5000000, 10)
+    is_owner_rights(w) || is_single(w, 0x5000000, 10)
 }

@@ -1,2 +1,2 @@
 -- Laws of what the programs that are tests share.
-mod TextLaws
+pub mod TextLaws

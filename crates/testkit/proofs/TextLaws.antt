@@ -1,35 +1,48 @@
--- Laws of words, lines, digits, and bytes in pairs of digits.
--- In order: `after_outside after_same after_other`, words at a place; `next_past next_in_lem line_end line_more line_none`, a line from a place on; `digit_low
--- digit_figure digit_between digit_letter digit_high`, a digit by its range; `byte_high byte_low byte_both`, two
--- digits; `fill_start`, before the first turn of `filled`; `fill_full fill_end
+-- Laws of words, lines, and of bytes in pairs of digits.
+-- In order: `found_none found_some is_found after_none`, words at a place; `next_past next_in_lem line_found line_open`, a line from a place on; `under_none under_some`, a value that is told or not;
+-- `front`, what is left of a text read in place; `fill_start`, before the first turn of `filled`; `fill_full fill_end
 -- fill_done fill_short fill_bad fill_more`, one for each way through a turn.
 -- Assumes nothing.
 use Prim.Native.Nat.{ℕ, suc, ◌+◌, ◌-◌, ◌*◌, ◌≤◌, ◌<◌}
-use mathlib.Core.Path.{◌≡◌, ap}
-use mathlib.Core.List.{List}
-use mathlib.Core.Bool.{true, false}
+use mathlib.Core.Path.{◌≡◌, refl, ap, ◌∙◌}
+use mathlib.Core.List.{List, [], ◌∷◌}
+use mathlib.Core.Bool.{Bool, true, false, cond, not}
 use native.Mathlib.Omega.{arith}
-use native.Mathlib.Numerals.{add-one}
-use borrow.Author.Tests.{le-leb, lt-leb, lt-ltb, le-ltb, eq-eqb, ne_eqb}
-use lib.ListN.{length, drop, set, drop_of_length-le}
-use lib.Seq.{drop-cons}
-use Rattle.base.specs.Bytes.{byte_at, part, same}
-use Rattle.testkit.specs.Text.{no_place, after, line_length, next_line, digit, byte_of, unfilled, good, filled}
+use borrow.Author.Tests.{le-leb, lt-leb, lt-ltb, le-ltb, eq-eqb, ne_eqb, ltb-true, ltb-false, eqb-true}
+use lib.Dec.{eqb, ltb}
+use lib.ListN.{length, take, drop, set, get_or}
+use Rattle.std.specs.Prelude.{Option, Some, None, is_some, min, ◌==◌}
+use Rattle.std.specs.List.{position, position_or_len}
+use Rattle.std.proofs.lemmas.List.{get_or-drop}
+use Rattle.std.proofs.Common.{length-drop}
+use Rattle.std.proofs.lemmas.List.{take_all}
+use Rattle.base.specs.Bytes.{byte_at}
+use Rattle.testkit.specs.Text.{no_place, found, after, under, line_length, next_line, byte_of, unfilled, good, filled}
 
-module _ (text : List ℕ) (at : ℕ) (words : List ℕ) where
-  pub after_outside : length text < at + length words → after text at words ≡ no_place
-  unfolding after
-  after_outside h = rw (lt-leb (at + length words) (length text) h)
+pub found_none : (n : ℕ) → None ≡ found n → n ≡ no_place
+found_none n h = go (eqb n no_place) refl h
+  where
+    go : (v : Bool) → eqb n no_place ≡ v → None ≡ cond v None (Some n) → n ≡ no_place
+    go true e h = eqb-true n no_place e
+    go false e h = cc
 
-  pub after_same :
-      at + length words ≤ length text → same (part text at (at + length words)) words ≡ true → after text at words ≡ at + length words
-  unfolding after
-  after_same h e = rw (le-leb (at + length words) (length text) h, e)
+pub found_some : (n v : ℕ) → Some v ≡ found n → v ≡ n
+found_some n v h = go (eqb n no_place) h
+  where
+    go : (b : Bool) → Some v ≡ cond b None (Some n) → v ≡ n
+    go true h = cc
+    go false h = cc
 
-  pub after_other :
-      at + length words ≤ length text → same (part text at (at + length words)) words ≡ false → after text at words ≡ no_place
-  unfolding after
-  after_other h e = rw (le-leb (at + length words) (length text) h, e)
+pub is_found : (n : ℕ) → is_some (found n) ≡ not (eqb n no_place)
+is_found n = go (eqb n no_place)
+  where
+    go : (b : Bool) → is_some (cond b None (Some n)) ≡ not b
+    go true = refl
+    go false = refl
+
+pub after_none : (text words : List ℕ) → length text < no_place + length words → after text no_place words ≡ no_place
+unfolding after
+after_none text words h = rw (lt-leb (no_place + length words) (length text) h)
 
 pub next_past : (s : List ℕ) (at : ℕ) → length s ≤ at → next_line s at ≡ length s
 unfolding next_line
@@ -39,51 +52,59 @@ pub next_in_lem : (s : List ℕ) (at : ℕ) → at < length s → next_line s at
 unfolding next_line
 next_in_lem s at h = rw (lt-ltb at (length s) h)
 
-pub line_end : (s : List ℕ) (i : ℕ) → i < length s → byte_at s i ≡ 10 → line_length (drop i s) ≡ 1
+step : (b n p l : ℕ) → n ≡ min (p + 1) l → cond (eqb b 10) 1 (suc n) ≡ min (cond (not (eqb b 10)) (1 + p) 0 + 1) (suc l)
+step b n p l h = go (eqb b 10)
+  where
+    go : (v : Bool) → cond v 1 (suc n) ≡ min (cond (not v) (1 + p) 0 + 1) (suc l)
+    go true = omega arith
+    go false = omega (arith, h)
+
+-- a line ends with the first line end, or with the text
+line_least : (s : List ℕ) → line_length s ≡ min (position_or_len (λ b. b == 10) s + 1) (length s)
 unfolding line_length
-line_end s i h e = rw (drop-cons s i 0 h, eq-eqb (byte_at s i) 10 e)
+line_least [] = omega arith
+line_least (b ∷ s) = step b (line_length s) (position_or_len (λ b. b == 10) s) (length s) (line_least s)
 
-pub line_more : (s : List ℕ) (i : ℕ) → i < length s → (byte_at s i ≡ 10 → ⊥) → line_length (drop i s) ≡ suc (line_length (drop (i + 1) s))
-unfolding line_length
-line_more s i h e = rw (add-one, drop-cons s i 0 h, ne_eqb (byte_at s i) 10 e)
+at_some : (p l k : ℕ) → Some k ≡ cond (ltb p l) (Some p) None → (k ≡ p) × (p < l)
+at_some p l k h = go (ltb p l) refl h
+  where
+    go : (v : Bool) → ltb p l ≡ v → Some k ≡ cond v (Some p) None → (k ≡ p) × (p < l)
+    go true e h = (cc, ltb-true p l e)
+    go false e h = cc
 
-pub line_none : (s : List ℕ) (i : ℕ) → length s ≤ i → line_length (drop i s) ≡ 0
-unfolding line_length
-line_none s i h = rw (drop_of_length-le s h)
+at_none : (p l : ℕ) → None ≡ cond (ltb p l) (Some p) None → l ≤ p
+at_none p l h = go (ltb p l) refl h
+  where
+    go : (v : Bool) → ltb p l ≡ v → None ≡ cond v (Some p) None → l ≤ p
+    go true e h = cc
+    go false e h = ltb-false p l e
 
-module _ (b : ℕ) where
-  pub digit_low : b < 48 → digit b ≡ 16
-  unfolding digit
-  digit_low h = rw (lt-ltb b 48 h)
+pub line_found : (s : List ℕ) (k : ℕ) → Some k ≡ position (λ b. b == 10) s → line_length s ≡ k + 1
+line_found s k h =
+    let p = at_some (position_or_len (λ b. b == 10) s) (length s) k h in omega (arith, line_least s, p.0, p.1)
 
-  pub digit_figure : 48 ≤ b → b ≤ 57 → digit b ≡ b - 48
-  unfolding digit
-  digit_figure l h = rw (le-ltb b 48 l, le-leb b 57 h)
+pub line_open : (s : List ℕ) → None ≡ position (λ b. b == 10) s → line_length s ≡ length s
+line_open s h = omega (arith, line_least s, at_none (position_or_len (λ b. b == 10) s) (length s) h)
 
-  pub digit_between : 57 < b → b < 97 → digit b ≡ 16
-  unfolding digit
-  digit_between l h = rw (le-ltb b 48 (omega arith), lt-leb b 57 l, lt-ltb b 97 h)
+-- a text from a place on, as the code reads it
+pub whole_rest : (i : ℕ) (s : List ℕ) → take (length s - i) (drop i s) ≡ drop i s
+whole_rest i s = take_all (length s - i) (drop i s) (omega (arith, length-drop i s))
 
-  pub digit_letter : 97 ≤ b → b ≤ 102 → digit b ≡ b - 87
-  unfolding digit
-  digit_letter l h = rw (le-ltb b 48 (omega arith), lt-leb b 57 (omega arith), le-ltb b 97 l, le-leb b 102 h)
+pub under_some : (most n v : ℕ) → Some v ≡ under most n → (v ≡ n) × (n < most)
+under_some most n v h = at_some n most v h
 
-  pub digit_high : 102 < b → digit b ≡ 16
-  unfolding digit
-  digit_high h = rw (le-ltb b 48 (omega arith), lt-leb b 57 (omega arith), le-ltb b 97 (omega arith), lt-leb b 102 h)
+pub under_none : (most n : ℕ) → None ≡ under most n → most ≤ n
+under_none most n h = at_none n most h
 
-module _ (h l : ℕ) where
-  pub byte_high : 15 < digit h → byte_of h l ≡ 256
-  unfolding byte_of
-  byte_high p = rw (lt-ltb 15 (digit h) p)
-
-  pub byte_low : digit h ≤ 15 → 15 < digit l → byte_of h l ≡ 256
-  unfolding byte_of
-  byte_low p q = rw (le-ltb 15 (digit h) p, lt-ltb 15 (digit l) q)
-
-  pub byte_both : digit h ≤ 15 → digit l ≤ 15 → byte_of h l ≡ 16 * digit h + digit l
-  unfolding byte_of
-  byte_both p q = rw (le-ltb 15 (digit h) p, le-ltb 15 (digit l) q)
+pub front :
+    (text rest : List ℕ) (i : ℕ) → rest ≡ drop i text
+    → (byte_at text i ≡ get_or rest 0 0) × (byte_at text (i + 1) ≡ get_or rest 1 0) × (length rest ≡ length text - i)
+front text rest i e =
+    let h : i + 0 ≡ i = omega arith in (
+      rw (e, get_or-drop i text 0 0, h),
+      rw (e, get_or-drop i text 1 0),
+      rw e (length-drop i text),
+    )
 
 pub fill_start : (text out : List ℕ) (stop : ℕ) → filled text stop (length out) out 0 0 ≡ filled text stop (length out - 0) out 0 0
 fill_start text out stop = let e : length out ≡ length out - 0 = omega arith in ap (λ (k : ℕ). filled text stop k out 0 0) e

@@ -1,7 +1,6 @@
 -- Files of cases: words at a place, lines, and bytes in pairs of hexadecimal digits.
-use Rattle.std.specs.Prelude.{ℕ, zero, suc, ◌+◌, ◌-◌, ◌*◌, ◌^◌, List, [], ◌∷◌, true, false, cond, length, drop, set, ltb, leb, eqb}
+use Rattle.std.specs.Prelude.{ℕ, zero, suc, ◌+◌, ◌-◌, ◌*◌, ◌^◌, List, [], ◌∷◌, Bool, true, false, Option, Some, None, cond, length, drop, set, ltb, leb, eqb}
 use Rattle.base.specs.Bytes.{byte_at, part, same}
-use Rattle.testkit.specs.declared.text.Hex.{Hex}
 
 -- what stands for no place
 abbrev pub no_place : ℕ
@@ -13,6 +12,10 @@ after text at words =
     cond (leb (at + length words) (length text))
     (cond (same (part text at (at + length words)) words) (at + length words) no_place)
     no_place
+
+-- the place that is told, if it is one
+abbrev pub found : ℕ → Option ℕ
+found n = cond (eqb n no_place) None (Some n)
 
 -- how many bytes the line at the front of a text has, its line end among them
 unfoldable pub line_length : List ℕ → ℕ
@@ -27,9 +30,22 @@ next_line text at = cond (ltb at (length text)) (at + line_length (drop at text)
 unfoldable pub digit : ℕ → ℕ
 digit b = cond (ltb b 48) 16 (cond (leb b 57) (b - 48) (cond (ltb b 97) 16 (cond (leb b 102) (b - 87) 16)))
 
+-- a value, if it is less than the one that stands for none
+abbrev pub under : ℕ → ℕ → Option ℕ
+under none n = cond (ltb n none) (Some n) None
+
 -- the byte that two digits are; 256 where one is none
 unfoldable pub byte_of : ℕ → ℕ → ℕ
 byte_of h l = cond (ltb 15 (digit h)) 256 (cond (ltb 15 (digit l)) 256 (16 * digit h + digit l))
+
+-- whether a text began with bytes, and how many
+pub record Hex : Type 0 where
+  pub ok : Bool
+  pub length : ℕ
+
+-- how many, if it did
+abbrev pub counted : Hex → Option ℕ
+counted h = cond h.ok (Some h.length) None
 
 -- an answer, and what the buffer then has
 pub record Filling : Type 0 where

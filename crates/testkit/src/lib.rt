@@ -9,4 +9,4 @@ mod text;
 
 pub use printing::{print, print_bytes, print_hex, print_number};
 pub use sample::descriptor;
-pub use text::{Hex, NOWHERE, after, bytes_of, next_line, read};
+pub use text::{Lines, after, bytes_of, first_line, next_line, read};

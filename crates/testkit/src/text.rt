@@ -1,95 +1,46 @@
 // Files of cases: their lines, words and hexadecimal bytes.
-ghost use Rattle.std.specs.Prelude.{◌≡◌, ◌-◌, ◌≤◌, length, IfOk};
-ghost use Rattle.testkit.specs.Text.{after, next_line, digit, byte_of, hex_bytes};
+ghost use Rattle.std.specs.Prelude.{◌≡◌, ◌-◌, ◌<◌, ◌≤◌, ◌==◌, length, take, drop, vec_len};
+ghost use Rattle.std.specs.List.{position};
+ghost use Rattle.std.specs.Prelude.{IfOk, IfSome, MatchOption};
+ghost use Rattle.std.specs.Iterator.{at_most};
+ghost use Rattle.testkit.specs.Text.{after, found, next_line, digit, byte_of, under};
+ghost use Rattle.testkit.specs.Text.{hex_bytes, counted};
 
 use crate::printing::print;
-use std::fs::File;
 use std::io;
-use std::io::Read;
 
-// Reads a file into a buffer and answers how many bytes it has: 0, after a line that says why,
-// where it cannot be opened or leaves no room in the buffer. A read or a write that fails is an
-// error.
-pub fn read(rt: &HostRuntime, name: &[u8], out: &mut [u8]) -> io::Result<usize>
-    ensures { IfOk result (λ n. n ≤ length out.new) }
+// Reads a file of less than so many bytes: none, after a line that says why, where it cannot be
+// opened or has more. A read or a write that fails is an error.
+pub fn read(rt: &HostRuntime, name: &[u8], room: u64) -> io::Result<Vec<u8>>
+    ensures { IfOk result (λ text. vec_len text ≤ room) }
 {
-    let mut file = match open(rt, name) {
-        Ok(file) => file,
-        Err(e) => {
-            fail(rt, name, &e)?;
-            return Ok(0);
-        }
+    let Some(file) = files::told(rt, name, files::open(rt, name))? else {
+        return Ok(Vec::new(rt.alloc()));
     };
-    let n = fill(&mut file, out)?;
-    if n == out.len() {
+    let text = files::read(rt.alloc(), file, room)?;
+    if text.len() as u64 >= room {
         print(rt, name)?;
         print(rt, b": too long\n")?;
-        return Ok(0);
+        return Ok(Vec::new(rt.alloc()));
     }
-    Ok(n)
+    Ok(text)
 }
 
-// What the system says of a name that is no text.
-const NO_TEXT: i32 = 84;
-
-// Opens a file, whose name has to be text.
-fn open(rt: &HostRuntime, name: &[u8]) -> io::Result<File> {
-    match str::from_utf8(name) {
-        Ok(path) => File::open(rt, path),
-        Err(_) => Err(io::Error::from_raw_os_error(NO_TEXT)),
-    }
-}
-
-// What an error's text says before its number.
-fn reason(said: &str) -> &str {
-    let Some((why, _)) = said.split_once(" (os error ") else {
-        return said;
-    };
-    why
-}
-
-// Writes a line to standard error: what failed, and why, in the system's words.
-fn fail(rt: &HostRuntime, name: &[u8], error: &io::Error) -> io::Result<()> {
-    let said = format!(in rt.alloc(); "{error}")?;
-    let why = reason(&said);
-    let err = rt.stderr();
-    print(&err, name)?;
-    print!(err; ": {why}\n")
-}
-
-// Reads until a buffer is full or the file ends, and answers how many bytes that are.
-fn fill(file: &mut impl Read, out: &mut [u8]) -> io::Result<usize>
-    ensures { IfOk result (λ n. n ≤ length out.new) }
+// The place after the words that stand at a place.
+#[tactic(auto, unfolding(crate::specs::Text::after))]
+pub fn after(text: &[u8], at: usize, words: &[u8]) -> Option<usize>
+    ensures { result ≡ found (after text.now at words.now) }
 {
-    let mut done = 0;
-    while done < out.len() {
-        let n = file.read(&mut out[done..])?;
-        if n == 0 {
-            break;
-        }
-        done += n;
-    }
-    Ok(done)
+    let end = at.checked_add(words.len())?;
+    let there = text.get(at..end)?;
+    base::same(there, words).then_some(end)
 }
 
-// What `after` answers where the words do not stand.
-pub const NOWHERE: usize = usize::MAX;
-
-// The place after the words that stand at a place, or NOWHERE.
-pub fn after(text: &[u8], at: usize, words: &[u8]) -> usize
-    ensures { result ≡ after text.now at words.now }
+// The place of the first line end.
+fn line_end(text: &[u8]) -> Option<usize>
+    ensures { result ≡ position (λ b. b == 10) text.now }
 {
-    if text.len() < at {
-        return NOWHERE;
-    }
-    if text.len() - at < words.len() {
-        return NOWHERE;
-    }
-    let end = at + words.len();
-    if base::same(&text[at..end], words) {
-        return end;
-    }
-    NOWHERE
+    text.iter().position(|b| *b == b'\n')
 }
 
 // Where the line after the one at a place begins: past its line end, or at the end of the text. Less
@@ -102,92 +53,80 @@ pub fn next_line(text: &[u8], at: usize) -> usize
     if text.len() <= at {
         return text.len();
     }
-    let mut i = at;
-    while i < text.len() {
-        if text[i] == b'\n' {
-            return i + 1;
-        }
-        i += 1;
+    match line_end(&text[at..]) {
+        Some(k) => at + k + 1,
+        None => text.len(),
     }
-    i
 }
 
-// The value of a digit, or 16 where it is none.
-fn digit(b: u8) -> u32
-    ensures { (result ≡ digit b) × (result ≤ 16) }
+// The first line of a text and what follows on it; none in an empty text.
+pub fn first_line(text: &[u8]) -> Option<(&[u8], &[u8])>
+    ensures parts { MatchOption result (length text.now ≡ 0)
+        (λ p. (p.0.now ≡ take (next_line text.now 0) text.now)
+        × (p.1.now ≡ drop (next_line text.now 0) text.now)) }
+    ensures less { IfSome result (λ p. length p.1.now < length text.now) }
 {
-    if b < b'0' {
-        return 16;
+    if text.is_empty() {
+        return None;
     }
-    if b <= b'9' {
-        return base::wide(b) - 48;
-    }
-    if b < b'a' {
-        return 16;
-    }
-    if b <= b'f' {
-        return base::wide(b) - 87;
-    }
-    16
+    Some(text.split_at(next_line(text, 0)))
 }
 
-// The byte that two digits are, or 256 where one is none.
-fn byte_of(high: u8, low: u8) -> u32
-    ensures { result ≡ byte_of high low }
+// The lines of a text, each with what follows on it.
+#[derive(Drop)]
+pub struct Lines<'a>(pub &'a [u8]);
+
+impl<'a> Iterator for Lines<'a> {
+    type Item = (&'a [u8], &'a [u8]);
+
+    ghost remaining = { λ s. at_most (length s.0.now) };
+
+    fn next(&mut self) -> Option<(&'a [u8], &'a [u8])> {
+        let (line, rest) = first_line(self.0)?;
+        self.0 = rest;
+        Some((line, rest))
+    }
+}
+
+// The value of a digit.
+#[tactic(auto, unfolding(crate::specs::Text::digit))]
+fn digit(b: u8) -> Option<u8>
+    ensures { result ≡ under 16 (digit b) }
 {
-    let h = digit(high);
-    if 15 < h {
-        return 256;
+    match b {
+        b'0'..=b'9' => Some(b - b'0'),
+        b'a'..=b'f' => Some(b - b'a' + 10),
+        _ => None,
     }
-    let l = digit(low);
-    if 15 < l {
-        return 256;
-    }
-    16 * h + l
 }
 
-// Whether a text began with bytes, and how many.
-#[derive(Clone, Copy)]
-pub struct Hex {
-    pub ok: bool,
-    pub length: usize,
+// The byte that two digits are.
+#[tactic(auto, unfolding(crate::specs::Text::byte_of))]
+fn byte_of(high: u8, low: u8) -> Option<u8>
+    ensures { result ≡ under 256 (byte_of high low) }
+{
+    Some(16 * digit(high)? + digit(low)?)
 }
-
-const BAD: Hex = Hex {
-    ok: false,
-    length: 0,
-};
 
 // Puts the bytes that a text has in pairs of digits, up to the byte `stop`, at the start of a
-// buffer. They have to leave room in it.
-pub fn bytes_of(text: &[u8], stop: u8, out: &mut [u8]) -> Hex
-    ensures value { result ≡ (hex_bytes text.now stop out.old).answer }
+// buffer, and answers how many they are. They have to leave room in it.
+// kept: a count, and not the part of the buffer, since `out_after` states what the buffer then has
+pub fn bytes_of(text: &[u8], stop: u8, out: &mut [u8]) -> Option<usize>
+    ensures value { result ≡ counted (hex_bytes text.now stop out.old).answer }
     ensures out_after { out.new
         ≡ (hex_bytes text.now stop out.old).bytes }
-    ensures length_in_bounds { result.length ≤ length out.new }
+    ensures length_in_bounds { IfSome result (λ n. n ≤ length out.new) }
 {
-    let mut n: usize = 0;
-    let mut i: usize = 0;
-    while n < out.len() {
-        if text.len() <= i {
-            return BAD;
+    let mut rest = text;
+    for (n, b) in out.iter_mut().enumerate() {
+        match rest {
+            [end, ..] if *end == stop => return Some(n),
+            [high, low, ..] => {
+                *b = byte_of(*high, *low)?;
+                rest = &rest[2..];
+            }
+            _ => return None,
         }
-        if text[i] == stop {
-            return Hex {
-                ok: true,
-                length: n,
-            };
-        }
-        if text.len() - i < 2 {
-            return BAD;
-        }
-        let b = byte_of(text[i], text[i + 1]);
-        if 255 < b {
-            return BAD;
-        }
-        out[n] = b as u8;
-        n += 1;
-        i += 2;
     }
-    BAD
+    None
 }

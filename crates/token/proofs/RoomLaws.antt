@@ -10,8 +10,9 @@ use lib.ListN.{length}
 use lib.Seq.{sets, length-sets}
 use borrow.Author.Tests.{ltb-false}
 use Rattle.records.specs.Converters.{Conversion, refusal, fitted}
-use Rattle.tokens.specs.Answers.{answered}
-use Rattle.tokens.specs.declared.Converted.{Converted}
+use Rattle.std.specs.Prelude.{Result, Ok, Err, IfOk}
+use Rattle.tokens.specs.Answers.{Converted, answered, converted_by}
+use Rattle.tokens.specs.declared.refusal.Refusal.{Refusal}
 
 fitted_room : (room : ℕ) (c : Conversion) → length (fitted room c).bytes ≤ room
 unfolding fitted
@@ -27,3 +28,8 @@ written_inside entry exit c r e f =
     let long : r.length ≡ length (fitted (length entry) c).bytes = ap (λ (x : Converted). x.length) e in
     let kept : length exit ≡ length (sets entry 0 (fitted (length entry) c).bytes) = ap length f in
     omega (arith, length-sets entry 0 (fitted (length entry) c).bytes, fitted_room (length entry) c)
+
+pub made_inside : (entry exit : List ℕ) (c : Conversion) (r : Result ℕ Refusal) → converted_by r ≡ answered (fitted (length entry) c) →
+    exit ≡ sets entry 0 (fitted (length entry) c).bytes → IfOk r (λ n. n ≤ length exit)
+made_inside entry exit c (Ok n) e f = written_inside entry exit c (converted_by (Ok n)) e f
+made_inside entry exit c (Err r) e f = tt

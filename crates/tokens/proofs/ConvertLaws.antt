@@ -24,11 +24,12 @@ use Rattle.records.specs.Converters.{Conversion, converted, as_listing, fitted, 
 use Rattle.records.specs.Crowd.{confined_place}
 use Rattle.records.specs.Unpacking.{Unpacked, room_fits}
 use Rattle.records.specs.Clean.{ReadKeeping}
+use Rattle.records.proofs.RecordAnswer.{listing_some}
 use Rattle.records.proofs.RoundTrip.{listing_back, record_form}
-use Rattle.tokens.specs.Answers.{answered}
-use Rattle.tokens.specs.Judging.{judged_of, refused_extent, extent_of, holding, listed_in, room_after}
-use Rattle.tokens.specs.declared.flat.Extent.{Extent}
-use Rattle.tokens.specs.declared.judging.Judged.{Judged}
+use Rattle.tokens.specs.declared.refusal.Refusal.{Refusal}
+use Rattle.tokens.specs.declared.refusal.Refusal.TheVariants.{Misshapen, BreaksRule, TooLong}
+use Rattle.tokens.specs.Answers.{answered, number_of}
+use Rattle.tokens.specs.Judging.{Extent, Judged, judged_of, refused_extent, extent_of, holding, listed_in, room_after}
 use Rattle.tokens.proofs.JudgePeople.{listing_cut}
 
 -- ---- what was unpacked, judged
@@ -85,6 +86,12 @@ judged_taken (some t end) h = test (keeps t) refl
     test true k = record { token = t; end = end; read = refl; kept = k }
     test false k = let z : ◌≡◌ {A = ℕ} 4 0 = rw k at h in absurd (omega arith)
 
+-- no refusal has the number of what is taken
+pub refused_some : (r : Refusal) → number_of r ≡ 0 → ⊥
+refused_some Misshapen h = omega arith
+refused_some BreaksRule h = omega arith
+refused_some TooLong h = omega arith
+
 -- ---- the extent of the listing in its room
 
 -- what the room holds
@@ -113,9 +120,20 @@ taken_extent (some t end) entry exit n u h = test (keeps t) refl
     test true k = rw (k, u.0)
     test false k = let z : ◌≡◌ {A = ℕ} 4 0 = rw k at h in absurd (omega arith)
 
--- where the room may be too short
-pub unfit_extent : (room : ℕ) (s : List ℕ) → room_fits room (length s) ≡ false → refused_extent 11 ≡ listed_in room s
-unfit_extent room s e = rw e
+-- where nothing is in the room
+pub empty_extent : (room : ℕ) (s entry exit : List ℕ) → room_fits room (length s) ≡ true →
+    Unpacked (cond (room_fits room (length s)) (read_record s) none) entry exit 0 → refused_extent 3 ≡ listed_in room s
+unfolding extent_of
+empty_extent room s entry exit e u = rw e (go (read_record s) (rw e at u))
+  where
+    go : (q : Read Token) → Unpacked q entry exit 0 → refused_extent 3 ≡ extent_of q
+    go none v = refl
+    go (some t end) v = absurd (omega (arith, v.0, listing_some t))
+
+-- where something is, the room was long enough
+pub filled_fit : (fits : Bool) (q : Read Token) (entry exit : List ℕ) (n : ℕ) → Unpacked (cond fits q none) entry exit n → 0 < n → fits ≡ true
+filled_fit true q entry exit n u h = refl
+filled_fit false q entry exit n u h = absurd (omega (arith, u.0))
 
 -- where unpacking told already that the token keeps the rules
 kept_read : (q : Read Token) (entry exit : List ℕ) (n : ℕ) → ReadKeeping q → Unpacked q entry exit n →

@@ -1,15 +1,16 @@
 -- Laws of the judge's walks: what is told of what is read, step by step.
 -- In order: an identity and a word of a listing at a place, an identity and a count, things in a row, groups, capabilities, what is told
--- of a
--- reading as the code answers it. Not here: confinement, people and the whole listing, JudgePeople. Assumes nothing.
+-- of a reading and a place that is found, as the code answers them. Not here: confinement, people and the whole listing, JudgePeople. Assumes nothing.
 use Prim.Native.Nat.{ℕ, zero, suc, ◌+◌, ◌-◌, ◌<◌, ◌≤◌}
 use mathlib.Core.Path.{◌≡◌, refl, sym, ap, ap₂, ◌∙◌}
 use mathlib.Core.List.{List, ◌∷◌}
-use mathlib.Core.Bool.{Bool, true, false, cond, not, ◌||◌}
+use mathlib.Core.Bool.{Bool, true, false, cond, ◌||◌}
 use native.Mathlib.Omega.{arith}
-use borrow.Author.Tests.{not-true, not-false, eq-eqb, ne_eqb, le-ltb, lt-ltb}
+use borrow.Author.Tests.{eq-eqb, ne_eqb, le-ltb, lt-ltb}
 use lib.ListN.{length}
-use Rattle.base.specs.Bytes.{Read, bind, part, u32_at, same}
+use Rattle.std.specs.Prelude.{Some, None}
+use Rattle.base.specs.Bytes.{Read, bind, found, part, u32_at, same}
+use Rattle.base.proofs.FoundLaws.{place_found}
 use Rattle.base.specs.Bytes.Read.{none, some}
 use Rattle.sids.specs.Sid.{sid_end, virtual}
 use Rattle.sids.proofs.SidLaws.{sid_end_bounds}
@@ -175,16 +176,33 @@ told_some : {A B : Type 0} (f : A → B) (q : Read A) (b : B) (end : ℕ) → to
 told_some f none b end e = let z : ◌≡◌ {A = ℕ} 0 1 = cc in absurd (omega arith)
 told_some f (some a c) b end e = record { a = a; read = let k : c ≡ end = cc in ap (some a) k; tells = cc }
 
-module _ {A : Type 0} (f : A → Bool) (q : Read A) (r : Walk) (is : walked r ≡ told f q) where
-  pub walk_none : not r.ok ≡ true → q ≡ none
-  walk_none h = told_none f q (sym is ∙ rw (not-true r.ok h))
+module _ {A : Type 0} (f : A → Bool) (q : Read A) where
+  pub walk_none : walked None ≡ told f q → q ≡ none
+  walk_none is = told_none f q (sym is)
 
-  pub walk_some : not r.ok ≡ false → Told f q r.breaks r.next
-  walk_some h = told_some f q r.breaks r.next (sym is ∙ rw (not-false r.ok h))
+  pub walk_some : (w : Walk) → walked (Some w) ≡ told f q → Told f q w.breaks w.next
+  walk_some w is = told_some f q w.breaks w.next (sym is)
 
-module _ (q : Read (List (List ℕ))) (r : Capabilities) (is : seen_by r ≡ told seen_of q) where
-  pub seen_none : not r.ok ≡ true → q ≡ none
-  seen_none h = told_none seen_of q (sym is ∙ rw (not-true r.ok h))
+module _ (q : Read (List (List ℕ))) where
+  pub seen_none : seen_by None ≡ told seen_of q → q ≡ none
+  seen_none is = told_none seen_of q (sym is)
 
-  pub seen_some : not r.ok ≡ false → Told seen_of q (record { breaks = r.breaks; listed = r.listed }) r.next
-  seen_some h = told_some seen_of q (record { breaks = r.breaks; listed = r.listed }) r.next (sym is ∙ rw (not-false r.ok h))
+  pub seen_some : (r : Capabilities) → seen_by (Some r) ≡ told seen_of q →
+      Told seen_of q (record { breaks = r.breaks; listed = r.listed }) r.next
+  seen_some r is = told_some seen_of q (record { breaks = r.breaks; listed = r.listed }) r.next (sym is)
+
+-- ---- a place that is found, as the code answers it
+
+-- an identity from a place up to another
+pub record Stands (s : List ℕ) (at e : ℕ) : Type 0 where
+  pub is : e ≡ sid_end s at
+  pub found : e ≡ 0 → ⊥
+  pub past : at + 8 ≤ e
+  pub inside : e ≤ length s
+
+pub stands : (s : List ℕ) (at e : ℕ) → Some e ≡ found (sid_end s at) → Stands s at e
+stands s at e h =
+    let p = place_found (sid_end s at) e h in
+    let b = sid_end_bounds s at (λ z. p.there (sym p.is ∙ z)) in
+    let y : e ≡ sid_end s at = sym p.is in
+    record { is = y; found = p.there; past = omega (arith, b.0); inside = omega (arith, b.1) }

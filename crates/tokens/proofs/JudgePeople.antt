@@ -7,6 +7,7 @@ use mathlib.Core.Bool.{Bool, true, false, not, ◌&&◌, ◌||◌}
 use native.Mathlib.Omega.{arith}
 use borrow.Author.Tests.{ltb-true, ltb-false, eq-eqb, ne_eqb, le-ltb, lt-ltb, le-leb, lt-leb}
 use lib.ListN.{length}
+use Rattle.std.specs.Prelude.{Some, None}
 use lib.Dec.{T, leb, ltb}
 use lib.Pow.{are_bytes}
 use Rattle.base.specs.Bytes.{only, part, u32_at, same}
@@ -45,18 +46,18 @@ module _ {s : List ℕ} {at e n : ℕ} (h : Headed s at e n) where
   unfolding confinement_at
   confinement_many k = rw (headed_identity h, headed_word h, lt-leb n 64 k)
 
-  module _ (few : n ≤ 64) (r : Capabilities) (walk : seen_by r ≡ told seen_of (many flat_identity n s (e + 4))) where
-    pub confinement_lost : not r.ok ≡ true → told confinement_breaks (confinement_at flat_reader true s at) ≡ none
+  module _ (few : n ≤ 64) where
+    pub confinement_lost : seen_by None ≡ told seen_of (many flat_identity n s (e + 4)) → told confinement_breaks (confinement_at flat_reader true s at) ≡ none
     unfolding confinement_at
     confinement_lost k =
-        rw (headed_identity h, headed_word h, le-leb n 64 few, seen_none (many flat_identity n s (e + 4)) r walk k)
+        rw (headed_identity h, headed_word h, le-leb n 64 few, seen_none (many flat_identity n s (e + 4)) k)
 
-    pub confinement_done : not r.ok ≡ false →
+    pub confinement_done : (r : Capabilities) → seen_by (Some r) ≡ told seen_of (many flat_identity n s (e + 4)) →
         told confinement_breaks (confinement_at flat_reader true s at)
         ≡ some (virtual (part s at e) || r.breaks || not r.listed) r.next
     unfolding confinement_at
-    confinement_done k =
-        let t = seen_some (many flat_identity n s (e + 4)) r walk k in
+    confinement_done r k =
+        let t = seen_some (many flat_identity n s (e + 4)) r k in
         let b : virtual_in t.a ≡ r.breaks = ap (λ (x : Seen). x.breaks) t.tells in
         let l : lists all_restricted t.a ≡ r.listed = ap (λ (x : Seen). x.listed) t.tells in
         rw (headed_identity h, headed_word h, le-leb n 64 few, t.read, b, l)
@@ -125,103 +126,104 @@ module _ (flags p : ℕ) (s : List ℕ) where
 pub record Grouped (s : List ℕ) (e n : ℕ) (r : Walk) : Type 0 where
   pub head : Headed s 12 e n
   pub few : n ≤ 256
-  pub walk : walked r ≡ told virtual_group (many (group_at flat_reader) n s (e + 4))
+  pub walk : walked (Some r) ≡ told virtual_group (many (group_at flat_reader) n s (e + 4))
 
 -- and what follows them, of which another tells
 pub record Peopled (flags : ℕ) (s : List ℕ) (e n : ℕ) (r w : Walk) : Type 0 where
   pub groups : Grouped s e n r
-  pub grouped : not r.ok ≡ false
-  pub rest : walked w ≡ told (rest_breaks flags) (confinement_at flat_reader (confined flags) s r.next)
+  pub rest : walked (Some w) ≡ told (rest_breaks flags) (confinement_at flat_reader (confined flags) s r.next)
 
 module _ (flags p : ℕ) {s : List ℕ} {e n : ℕ} where
   pub people_many : Headed s 12 e n → 256 < n → people_at flat_reader flags p s 12 ≡ none
   unfolding people_at
   people_many h k = rw (headed_identity h, headed_word h, lt-leb n 256 k)
 
-  pub people_lost : {r : Walk} → Grouped s e n r → not r.ok ≡ true → people_at flat_reader flags p s 12 ≡ none
+  pub people_lost : Headed s 12 e n → n ≤ 256 → walked None ≡ told virtual_group (many (group_at flat_reader) n s (e + 4)) →
+      people_at flat_reader flags p s 12 ≡ none
   unfolding people_at
-  people_lost {r} g k =
+  people_lost h few k =
+      rw (
+        headed_identity h,
+        headed_word h,
+        le-leb n 256 few,
+        walk_none virtual_group (many (group_at flat_reader) n s (e + 4)) k,
+      )
+
+  pub people_restless : {r : Walk} → Grouped s e n r →
+      walked None ≡ told (rest_breaks flags) (confinement_at flat_reader (confined flags) s r.next) →
+      people_at flat_reader flags p s 12 ≡ none
+  unfolding people_at
+  people_restless {r} g k =
       rw (
         headed_identity g.head,
         headed_word g.head,
         le-leb n 256 g.few,
-        walk_none virtual_group (many (group_at flat_reader) n s (e + 4)) r g.walk k,
+        (walk_some virtual_group (many (group_at flat_reader) n s (e + 4)) r g.walk).read,
+        walk_none (rest_breaks flags) (confinement_at flat_reader (confined flags) s r.next) k,
       )
 
 module _ (flags p : ℕ) {s : List ℕ} {e n : ℕ} {r w : Walk} (g : Peopled flags s e n r w) where
   groups : Told virtual_group (many (group_at flat_reader) n s (e + 4)) r.breaks r.next
-  groups = walk_some virtual_group (many (group_at flat_reader) n s (e + 4)) r g.groups.walk g.grouped
+  groups = walk_some virtual_group (many (group_at flat_reader) n s (e + 4)) r g.groups.walk
 
-  pub people_restless : not w.ok ≡ true → people_at flat_reader flags p s 12 ≡ none
-  unfolding people_at
-  people_restless h =
+  confinement : Told (rest_breaks flags) (confinement_at flat_reader (confined flags) s r.next) w.breaks w.next
+  confinement = walk_some (rest_breaks flags) (confinement_at flat_reader (confined flags) s r.next) w g.rest
+
+  token : Token
+  token = record {
+    flags = flags;
+    privileges = p;
+    user = part s 12 e;
+    groups = groups.a;
+    confinement = confinement.a;
+  }
+
+  people_done : people_at flat_reader flags p s 12 ≡ some token w.next
+  unfolding people_at token
+  people_done =
       rw (
         headed_identity g.groups.head,
         headed_word g.groups.head,
         le-leb n 256 g.groups.few,
         groups.read,
-        walk_none (rest_breaks flags) (confinement_at flat_reader (confined flags) s r.next) w g.rest h,
+        confinement.read,
       )
 
-  module _ (all : not w.ok ≡ false) where
-    confinement : Told (rest_breaks flags) (confinement_at flat_reader (confined flags) s r.next) w.breaks w.next
-    confinement = walk_some (rest_breaks flags) (confinement_at flat_reader (confined flags) s r.next) w g.rest all
+  token_keeps : keeps token ≡ not (virtual (part s 12 e) || r.breaks || w.breaks)
+  unfolding token
+  token_keeps =
+      keeps_is token (rest_unconfined flags s r.next confinement.a w.next confinement.read)
+      ∙ rw (groups.tells, confinement.tells)
 
-    token : Token
-    token = record {
-      flags = flags;
-      privileges = p;
-      user = part s 12 e;
-      groups = groups.a;
-      confinement = confinement.a;
-    }
+  token_place : T (are_bytes s) → confined_place token ≡ r.next
+  unfolding token
+  token_place b =
+      let h = g.groups.head in
+      let k : e + 4 ≤ length s = h.whole in
+      let f = (many_form (group_kept flat_format) n b k groups.read).0 in
+      let x : length (each (group_bytes flat_writer) groups.a) ≡ r.next - (e + 4) =
+      ap length (sym f.bytes) ∙ length_part s (e + 4) r.next f.past f.inside
+      in
+      let a : 12 + 8 ≤ e = identity_after s 12 e h.is h.found in
+      let y : length (part s 12 e) ≡ e - 12 = length_part s 12 e (omega arith) (omega arith) in
+      let l : e + 4 ≤ r.next = f.past in
+      omega arith
 
-    people_done : people_at flat_reader flags p s 12 ≡ some token w.next
-    unfolding people_at token
-    people_done =
-        rw (
-          headed_identity g.groups.head,
-          headed_word g.groups.head,
-          le-leb n 256 g.groups.few,
-          groups.read,
-          confinement.read,
-        )
+  pub people_longer : (w.next ≡ length s → ⊥) →
+      judged_of (ended s (people_at flat_reader flags p s 12)) ≡ record { status = 3; confined_at = 0 }
+  unfolding judged_of
+  people_longer h = rw (people_done, ne_eqb w.next (length s) h)
 
-    token_keeps : keeps token ≡ not (virtual (part s 12 e) || r.breaks || w.breaks)
-    unfolding token
-    token_keeps =
-        keeps_is token (rest_unconfined flags s r.next confinement.a w.next confinement.read)
-        ∙ rw (groups.tells, confinement.tells)
-
-    token_place : T (are_bytes s) → confined_place token ≡ r.next
-    unfolding token
-    token_place b =
-        let h = g.groups.head in
-        let k : e + 4 ≤ length s = h.whole in
-        let f = (many_form (group_kept flat_format) n b k groups.read).0 in
-        let x : length (each (group_bytes flat_writer) groups.a) ≡ r.next - (e + 4) =
-        ap length (sym f.bytes) ∙ length_part s (e + 4) r.next f.past f.inside
-        in
-        let a : 12 + 8 ≤ e = identity_after s 12 e h.is h.found in
-        let y : length (part s 12 e) ≡ e - 12 = length_part s 12 e (omega arith) (omega arith) in
-        let l : e + 4 ≤ r.next = f.past in
-        omega arith
-
-    pub people_longer : (w.next ≡ length s → ⊥) →
-        judged_of (ended s (people_at flat_reader flags p s 12)) ≡ record { status = 3; confined_at = 0 }
+  module _ (ends : w.next ≡ length s) where
+    pub people_broken : virtual (part s 12 e) || r.breaks || w.breaks ≡ true →
+        judged_of (ended s (people_at flat_reader flags p s 12)) ≡ record { status = 4; confined_at = 0 }
     unfolding judged_of
-    people_longer h = rw (people_done, ne_eqb w.next (length s) h)
+    people_broken h = rw (people_done, eq-eqb w.next (length s) ends, token_keeps, h)
 
-    module _ (ends : w.next ≡ length s) where
-      pub people_broken : virtual (part s 12 e) || r.breaks || w.breaks ≡ true →
-          judged_of (ended s (people_at flat_reader flags p s 12)) ≡ record { status = 4; confined_at = 0 }
-      unfolding judged_of
-      people_broken h = rw (people_done, eq-eqb w.next (length s) ends, token_keeps, h)
-
-      pub people_kept : T (are_bytes s) → virtual (part s 12 e) || r.breaks || w.breaks ≡ false →
-          judged_of (ended s (people_at flat_reader flags p s 12)) ≡ record { status = 0; confined_at = r.next }
-      unfolding judged_of
-      people_kept b h = rw (people_done, eq-eqb w.next (length s) ends, token_keeps, h, token_place b)
+    pub people_kept : T (are_bytes s) → virtual (part s 12 e) || r.breaks || w.breaks ≡ false →
+        judged_of (ended s (people_at flat_reader flags p s 12)) ≡ record { status = 0; confined_at = r.next }
+    unfolding judged_of
+    people_kept b h = rw (people_done, eq-eqb w.next (length s) ends, token_keeps, h, token_place b)
 
 -- ---- the whole listing
 

@@ -1,5 +1,6 @@
 -- Laws of the way from a listing to its record: what the judge says of it and of the record's length, and the answer within a lent buffer.
--- For `to_record` and `packed_by`.
+-- For `to_record`, `packed_in_room` and
+-- `pack`.
 -- Assumes nothing.
 use Prim.Native.Nat.{ℕ, ◌*◌, ◌<◌, ◌≤◌}
 use mathlib.Core.Path.{◌≡◌, sym, ap, ◌∙◌}
@@ -9,14 +10,16 @@ use lib.Dec.{T}
 use lib.Pow.{are_bytes}
 use lib.ListN.{length}
 use borrow.Author.Tests.{lt-ltb, le-ltb}
+use Rattle.base.specs.Bytes.{u64_at}
+use Rattle.base.proofs.EightLaws.{u64_at_in}
+use Rattle.sids.proofs.SidLaws.{sid_end_bounds}
 use Rattle.records.specs.FlatListing.{read_listing}
 use Rattle.records.specs.TokenRecord.{record_of}
 use Rattle.records.specs.Converters.{as_record, fitted, refusal, full_result}
-use Rattle.records.specs.Packing.{record_bytes, Packable}
+use Rattle.records.specs.Packing.{record_bytes, Packable, double_at}
 use Rattle.records.proofs.RoundTrip.{listing_form, converted_kept}
 use Rattle.records.proofs.PackedLaws.{packed_listing, packed_short, packed_twice, packable_listing}
-use Rattle.tokens.specs.Judging.{judged_of}
-use Rattle.tokens.specs.declared.judging.Judged.{Judged}
+use Rattle.tokens.specs.Judging.{judged_of, Judged}
 use Rattle.tokens.proofs.ConvertLaws.{Taken, judged_taken, judged_refused}
 
 module _ (s : List ℕ) (j : Judged) (bytes : T (are_bytes s)) (is : j ≡ judged_of (read_listing s)) where
@@ -68,3 +71,8 @@ module _ (room n : ℕ) (b : List ℕ) (long : n ≡ length b) where
   pub fitted_within : n ≤ room → fitted room (full_result b) ≡ full_result b
   unfolding fitted
   fitted_within h = rw (le-ltb room (length b) (omega arith))
+
+-- ---- the privileges of a listing that is packed
+
+pub privileges : (s : List ℕ) → Packable s → u64_at s 4 ≡ double_at s 4
+privileges s p = let b = sid_end_bounds s 12 p.crowd.identity in u64_at_in s 4 (omega (arith, b.0, b.1))

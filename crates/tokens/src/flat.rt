@@ -1,62 +1,49 @@
 // A packed record as a flat listing: unpacked into a room that is lent, judged there where unpacking
 // did not tell, and handed out.
 // The rooms of `to_listing` are chosen by the record's length.
-ghost use Rattle.std.specs.Prelude.{◌≡◌, true, ◌≤◌, length};
+ghost use Rattle.std.specs.Prelude.{◌≡◌, true, ◌≤◌, length, IfOk};
 ghost use Rattle.std.proofs.lemmas.List.Edits.{sets};
 ghost use Rattle.records.specs.Converters.{as_listing, fitted};
 ghost use Rattle.records.specs.Unpacking.{room_fits};
-ghost use Rattle.tokens.specs.Answers.{answered};
-ghost use Rattle.tokens.specs.Judging.{listed_in, room_after};
+ghost use Rattle.tokens.specs.Answers.{answered, converted_by};
+ghost use Rattle.tokens.specs.Judging.{extent_by, listed_in, room_after};
 
-use crate::Converted;
 use crate::judging::judge;
+use crate::refusal::Refusal;
 
-// A status number of the page (0, 3, 4 or 11), how long the listing at the front of a room is, and
-// the place of its confinement identity. Length and place are 0 on refusal.
+// How long the listing at the front of a room is, and the place of its confinement identity.
 #[derive(Clone, Copy)]
-pub struct Extent {
-    pub status: u32,
+pub struct Listed {
     pub length: usize,
     pub confined_at: usize,
 }
 
-// Lists a packed record at the front of `room`: 3 where it is misshapen, 4 where its token breaks a
-// token rule, 11 where `room` may be too short. On 3 and 11 `room` is then all zeros; on 4 it holds
-// the listing too.
-pub fn list_in(s: &[u8], room: &mut [u8]) -> Extent
-    ensures value { result ≡ listed_in (length room.old) s.now }
+// Lists a packed record at the front of `room`. It is misshapen, its token breaks a token rule, or
+// it is too long for `room`, as far as the lengths tell. Where it breaks a rule `room` then holds
+// the listing too, and on the other refusals it is all zeros.
+pub fn list_in(s: &[u8], room: &mut [u8]) -> Result<Listed, Refusal>
+    ensures value { extent_by result ≡ listed_in (length room.old) s.now }
     ensures room_after { room.new ≡ room_after s.now room.old }
-    ensures length_in_bounds { (result.length ≤ length room.old) × (result.confined_at ≤ result.length) }
+    ensures length_in_bounds { IfOk result (λ r. (r.length ≤ length room.old) × (r.confined_at ≤ r.length)) }
 {
-    let u = records::unpack(s, room);
-    let n = u.length;
+    let Some(u) = records::unpack(s, room) else {
+        if records::has_room(room.len(), s.len()) {
+            return Err(Refusal::Misshapen);
+        }
+        return Err(Refusal::TooLong);
+    };
+    let length = u.length;
     if u.clean {
-        return Extent {
-            status: 0,
-            length: n,
-            confined_at: n,
-        };
+        return Ok(Listed {
+            length,
+            confined_at: length,
+        });
     }
-    if !records::has_room(room.len(), s.len()) {
-        return Extent {
-            status: 11,
-            length: 0,
-            confined_at: 0,
-        };
-    }
-    let j = judge(&room[0..n]);
-    if j.status != 0 {
-        return Extent {
-            status: j.status,
-            length: 0,
-            confined_at: 0,
-        };
-    }
-    Extent {
-        status: 0,
-        length: n,
-        confined_at: j.confined_at,
-    }
+    let confined_at = judge(&room[..length])?;
+    Ok(Listed {
+        length,
+        confined_at,
+    })
 }
 
 // Copies all of `from` to the front of `out`.
@@ -64,52 +51,35 @@ pub(crate) fn copy(from: &[u8], out: &mut [u8])
     requires { length from.now ≤ length out.old }
     ensures { out.new ≡ sets out.old 0 from.now }
 {
-    let mut i: usize = 0;
-    while i < from.len() {
-        out[i] = from[i];
-        i += 1;
-    }
+    out[..from.len()].copy_from_slice(from);
 }
 
-// Lists a record in `room`, which is long enough, and copies the listing to `out`.
-fn listed_by(s: &[u8], room: &mut [u8], out: &mut [u8]) -> Converted
-    requires { room_fits (length room.old) (length s.now) ≡ true }
-    ensures value { result ≡ answered (fitted (length out.old) (as_listing s.now)) }
+// Lists a record in a room of N bytes, which is long enough, and copies the listing to `out`.
+// kept: beside `packed_in_room`, since the one may be refused in its room and the other may not.
+fn listed_in_room<const N: usize>(s: &[u8], out: &mut [u8]) -> Result<usize, Refusal>
+    requires { (N ≤ 22940) × (room_fits N (length s.now) ≡ true) }
+    ensures value { converted_by result ≡ answered (fitted (length out.old) (as_listing s.now)) }
     ensures out_after { out.new ≡ sets out.old 0 (fitted (length out.old) (as_listing s.now)).bytes }
 {
-    let e = list_in(s, room);
-    let n = e.length;
+    let mut room = [0u8; N];
+    let n = list_in(s, &mut room)?.length;
     if out.len() < n {
-        return Converted {
-            status: 11,
-            length: 0,
-        };
+        return Err(Refusal::TooLong);
     }
-    copy(&room[0..n], out);
-    Converted {
-        status: e.status,
-        length: n,
-    }
+    copy(&room[..n], out);
+    Ok(n)
 }
 
-// Writes the listing of a packed record to `out`, which is unchanged on refusal: 3, 4, or 11 where
-// the listing is longer than `out`.
-pub fn to_listing(s: &[u8], out: &mut [u8]) -> Converted
-    ensures value { result ≡ answered (fitted (length out.old) (as_listing s.now)) }
+// Writes the listing of a packed record to `out`, which is unchanged on refusal: too long is a
+// listing that is longer than `out`.
+pub fn to_listing(s: &[u8], out: &mut [u8]) -> Result<usize, Refusal>
+    ensures value { converted_by result ≡ answered (fitted (length out.old) (as_listing s.now)) }
     ensures out_after { out.new ≡ sets out.old 0 (fitted (length out.old) (as_listing s.now)).bytes }
 {
-    if s.len() <= 64 {
-        let mut tiny = [0u8; 256];
-        return listed_by(s, &mut tiny, out);
+    match s.len() {
+        ..=64 => listed_in_room::<256>(s, out),
+        65..=512 => listed_in_room::<2048>(s, out),
+        513..=2048 => listed_in_room::<8192>(s, out),
+        _ => listed_in_room::<22940>(s, out),
     }
-    if s.len() <= 512 {
-        let mut small = [0u8; 2048];
-        return listed_by(s, &mut small, out);
-    }
-    if s.len() <= 2048 {
-        let mut middle = [0u8; 8192];
-        return listed_by(s, &mut middle, out);
-    }
-    let mut large = [0u8; 22940];
-    listed_by(s, &mut large, out)
 }

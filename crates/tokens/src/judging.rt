@@ -1,65 +1,31 @@
 // The judge of a flat listing: its shape over the whole, then the token rules. One walk by places.
-ghost use Rattle.std.specs.Prelude.{◌≡◌, true, ◌||◌, ℕ, ◌≤◌, length};
+ghost use Rattle.std.specs.Prelude.{◌≡◌, true, ℕ, ◌≤◌, length, IfSome, IfOk};
 ghost use Rattle.base.specs.Bytes.{part, same};
 ghost use Rattle.sids.specs.Sid.{virtual};
 ghost use Rattle.records.specs.Token.{confined};
 ghost use Rattle.records.specs.Fields.{many, group_at, confinement_at, people_at, ended};
 ghost use Rattle.records.specs.FlatListing.{flat_identity, flat_reader, read_listing};
 ghost use Rattle.records.specs.TokenRules.{virtual_group, all_restricted};
-ghost use Rattle.tokens.specs.Judging.{judged_of, told, walked, seen_by, seen_of};
+ghost use Rattle.tokens.specs.Judging.{judged_by, judged_of, told, walked, seen_by, seen_of};
 ghost use Rattle.tokens.specs.Judging.{confinement_breaks, rest_breaks};
 
-// 3 where the listing is misshapen, 4 where its token breaks a token rule, else 0 and the place
-// of the confinement identity, or of the end where there is none.
-#[derive(Clone, Copy)]
-pub struct Judged {
-    pub status: u32,
-    pub confined_at: usize,
-}
+use crate::refusal::Refusal;
 
-// The place after what was read, and whether it breaks a token rule. Not ok where nothing was read:
-// then the other fields mean nothing and are free.
+// The place after what was read, and whether it breaks a token rule.
+// kept: that a place lies in the listing is said of each walk, since a place that held its listing
+// would be longer to make and to say.
 #[derive(Clone, Copy)]
 pub struct Walk {
-    pub ok: bool,
     pub next: usize,
     pub breaks: bool,
 }
 
-// The same of capabilities, and whether S-1-15-2-2 stands among them. Where `ok` is false the other
-// fields mean nothing and are free.
+// The same of capabilities, and whether S-1-15-2-2 stands among them.
 #[derive(Clone, Copy)]
 pub struct Capabilities {
-    pub ok: bool,
     pub next: usize,
     pub breaks: bool,
     pub listed: bool,
-}
-
-const LOST: Walk = Walk {
-    ok: false,
-    next: 0,
-    breaks: false,
-};
-
-const MISSHAPEN: Judged = Judged {
-    status: 3,
-    confined_at: 0,
-};
-
-const BROKEN: Judged = Judged {
-    status: 4,
-    confined_at: 0,
-};
-
-// Whether one holds.
-fn either(a: bool, b: bool) -> bool
-    ensures { result ≡ a || b }
-{
-    if a {
-        return true;
-    }
-    b
 }
 
 // Whether the identity from `from` to `to` is S-1-3-4 or S-1-5-10.
@@ -80,160 +46,125 @@ fn is_restricted(s: &[u8], from: usize, to: usize) -> bool
 }
 
 // As many groups from `at`.
-fn judge_groups(s: &[u8], at: usize, n: u32) -> Walk
+fn judge_groups(s: &[u8], at: usize, n: u32) -> Option<Walk>
     requires { at ≤ length s.now }
     ensures result_value { walked result ≡ told virtual_group (many (group_at flat_reader) n s.now at) }
-    ensures next_in_bounds { result.next ≤ length s.now }
+    ensures next_in_bounds { IfSome result (λ r. r.next ≤ length s.now) }
 {
-    let mut from = at;
-    let mut more = n;
+    let mut next = at;
     let mut breaks = false;
-    while 0 < more {
-        let e = sids::sid_end(s, from);
-        if e == 0 {
-            return LOST;
-        }
+    for _ in 0..n {
+        let e = sids::sid_end(s, next)?;
         if s.len() - e < 4 {
-            return LOST;
+            return None;
         }
-        breaks = either(breaks, is_virtual(s, from, e));
-        from = e + 4;
-        more -= 1;
+        breaks |= is_virtual(s, next, e);
+        next = e + 4;
     }
-    Walk {
-        ok: true,
-        next: from,
-        breaks,
-    }
+    Some(Walk { next, breaks })
 }
 
-// As many capabilities from `at`. Where one is not there the answer is not ok, and says no more.
-fn judge_capabilities(s: &[u8], at: usize, n: u32) -> Capabilities
+// As many capabilities from `at`.
+fn judge_capabilities(s: &[u8], at: usize, n: u32) -> Option<Capabilities>
     requires { at ≤ length s.now }
     ensures result_value { seen_by result ≡ told seen_of (many flat_identity n s.now at) }
-    ensures next_in_bounds { result.next ≤ length s.now }
+    ensures next_in_bounds { IfSome result (λ r. r.next ≤ length s.now) }
 {
-    let mut from = at;
-    let mut more = n;
+    let mut next = at;
     let mut breaks = false;
     let mut listed = false;
-    while 0 < more {
-        let e = sids::sid_end(s, from);
-        if e == 0 {
-            return Capabilities {
-                ok: false,
-                next: 0,
-                breaks: false,
-                listed: false,
-            };
-        }
-        breaks = either(breaks, is_virtual(s, from, e));
-        listed = either(listed, is_restricted(s, from, e));
-        from = e;
-        more -= 1;
+    for _ in 0..n {
+        let e = sids::sid_end(s, next)?;
+        breaks |= is_virtual(s, next, e);
+        listed |= is_restricted(s, next, e);
+        next = e;
     }
-    Capabilities {
-        ok: true,
-        next: from,
+    Some(Capabilities {
+        next,
         breaks,
         listed,
-    }
+    })
 }
 
 // The confinement identity and at most 64 capabilities, S-1-15-2-2 among them.
-fn judge_confinement(s: &[u8], at: usize) -> Walk
+fn judge_confinement(s: &[u8], at: usize) -> Option<Walk>
     requires { at ≤ length s.now }
     ensures result_value { walked result ≡ told confinement_breaks (confinement_at flat_reader true s.now at) }
-    ensures next_in_bounds { result.next ≤ length s.now }
+    ensures next_in_bounds { IfSome result (λ r. r.next ≤ length s.now) }
 {
-    let e = sids::sid_end(s, at);
-    if e == 0 {
-        return LOST;
-    }
+    let e = sids::sid_end(s, at)?;
     if s.len() - e < 4 {
-        return LOST;
+        return None;
     }
     let n = base::u32_at(s, e);
     if 64 < n {
-        return LOST;
+        return None;
     }
-    let w = judge_capabilities(s, e + 4, n);
-    if !w.ok {
-        return LOST;
-    }
-    let v = either(is_virtual(s, at, e), w.breaks);
-    Walk {
-        ok: true,
+    let w = judge_capabilities(s, e + 4, n)?;
+    Some(Walk {
         next: w.next,
-        breaks: either(v, !w.listed),
-    }
+        breaks: is_virtual(s, at, e) | w.breaks | !w.listed,
+    })
 }
 
 // What follows the groups: the confinement, or nothing, and then no exemption.
-fn judge_rest(s: &[u8], at: usize, flags: u32) -> Walk
+fn judge_rest(s: &[u8], at: usize, flags: u32) -> Option<Walk>
     requires { at ≤ length s.now }
     ensures result_value { walked result ≡ told (rest_breaks flags) (confinement_at flat_reader (confined flags) s.now at) }
-    ensures next_in_bounds { result.next ≤ length s.now }
+    ensures next_in_bounds { IfSome result (λ r. r.next ≤ length s.now) }
 {
     if flags & 1 == 0 {
-        return Walk {
-            ok: true,
+        return Some(Walk {
             next: at,
             breaks: flags & 2 != 0,
-        };
+        });
     }
     judge_confinement(s, at)
 }
 
-// From the user on, for any privileges.
-fn judge_people(s: &[u8], flags: u32) -> Judged
+// From the user on, for any privileges: the place of the confinement identity.
+fn judge_people(s: &[u8], flags: u32) -> Result<usize, Refusal>
     requires { 12 ≤ length s.now }
-    ensures by_index { (p : ℕ) → result ≡ judged_of (ended s.now (people_at flat_reader flags p s.now 12)) }
-    ensures confined_at_in_bounds { result.confined_at ≤ length s.now }
+    ensures by_index { (p : ℕ) → judged_by result ≡ judged_of (ended s.now (people_at flat_reader flags p s.now 12)) }
+    ensures confined_at_in_bounds { IfOk result (λ n. n ≤ length s.now) }
 {
-    let e = sids::sid_end(s, 12);
-    if e == 0 {
-        return MISSHAPEN;
-    }
+    let Some(e) = sids::sid_end(s, 12) else {
+        return Err(Refusal::Misshapen);
+    };
     if s.len() - e < 4 {
-        return MISSHAPEN;
+        return Err(Refusal::Misshapen);
     }
     let n = base::u32_at(s, e);
     if 256 < n {
-        return MISSHAPEN;
+        return Err(Refusal::Misshapen);
     }
-    let g = judge_groups(s, e + 4, n);
-    if !g.ok {
-        return MISSHAPEN;
-    }
-    let w = judge_rest(s, g.next, flags);
-    if !w.ok {
-        return MISSHAPEN;
-    }
+    let Some(g) = judge_groups(s, e + 4, n) else {
+        return Err(Refusal::Misshapen);
+    };
+    let Some(w) = judge_rest(s, g.next, flags) else {
+        return Err(Refusal::Misshapen);
+    };
     if w.next != s.len() {
-        return MISSHAPEN;
+        return Err(Refusal::Misshapen);
     }
-    let u = either(is_virtual(s, 12, e), g.breaks);
-    if either(u, w.breaks) {
-        return BROKEN;
+    if is_virtual(s, 12, e) | g.breaks | w.breaks {
+        return Err(Refusal::BreaksRule);
     }
-    Judged {
-        status: 0,
-        confined_at: g.next,
-    }
+    Ok(g.next)
 }
 
-// The whole listing.
-pub fn judge(s: &[u8]) -> Judged
-    ensures value { result ≡ judged_of (read_listing s.now) }
-    ensures confined_at_in_bounds { result.confined_at ≤ length s.now }
+// The whole listing: the place of its confinement identity, or of the end where there is none. It
+// is misshapen, or its token breaks a token rule.
+pub fn judge(s: &[u8]) -> Result<usize, Refusal>
+    ensures value { judged_by result ≡ judged_of (read_listing s.now) }
+    ensures confined_at_in_bounds { IfOk result (λ n. n ≤ length s.now) }
 {
     if s.len() < 12 {
-        return MISSHAPEN;
+        return Err(Refusal::Misshapen);
     }
     let flags = base::u32_at(s, 0);
     if 3 < flags {
-        return MISSHAPEN;
+        return Err(Refusal::Misshapen);
     }
     judge_people(s, flags)
 }

@@ -1,75 +1,86 @@
 // Cases of the two converters.
+// kept: buffers of a fixed size, a byte longer than the longest form: what is longer is seen to be so.
+ghost use Rattle.std.specs.Prelude.{◌≤◌, IfSome};
+
 use crate::text::ends_with_number;
 use testkit::bytes_of;
+use tokens::Refusal;
 
-fn is_listing_of(listing: &[u8], record: &[u8]) -> bool {
-    let mut out = [0u8; 22940];
-    let c = tokens::to_listing(record, &mut out);
-    if c.status != 0 {
-        return false;
-    }
-    let n = c.length;
-    if 22940 < n {
-        return false;
-    }
-    base::same(&out[0..n], listing)
+// The two forms of a token.
+#[derive(Clone, Copy)]
+pub(crate) enum Form {
+    Listing,
+    Record,
 }
 
-fn is_record_of(record: &[u8], listing: &[u8]) -> bool {
-    let mut out = [0u8; 28021];
-    let c = tokens::to_record(listing, &mut out);
-    if c.status != 0 {
-        return false;
+impl Form {
+    // How many bytes the longest has.
+    fn most(self) -> usize
+        ensures { result ≤ 28021 }
+    {
+        match self {
+            Form::Listing => 22940,
+            Form::Record => 28021,
+        }
     }
-    let n = c.length;
-    if 28021 < n {
-        return false;
+
+    // Puts the bytes of a token, given in hexadecimal digits, into a buffer. They have to be of a
+    // length that this form has.
+    fn bytes(self, hex: &[u8], out: &mut [u8; 28022]) -> Option<usize>
+        ensures { IfSome result (λ n. n ≤ 28022) }
+    {
+        let room = self.most() + 1;
+        bytes_of(hex, b'\n', &mut out[0..room])
     }
-    base::same(&out[0..n], record)
+
+    // The other form of a token into this one.
+    fn convert(self, from: &[u8], out: &mut [u8]) -> Result<usize, Refusal> {
+        match self {
+            Form::Listing => tokens::to_listing(from, out),
+            Form::Record => tokens::to_record(from, out),
+        }
+    }
+
+    // Whether a token in the other form converts to these bytes.
+    fn is_made_of(self, from: &[u8], wanted: &[u8]) -> bool {
+        let mut out = [0u8; 28021];
+        let room = self.most();
+        let Ok(n) = self.convert(from, &mut out[0..room]) else {
+            return false;
+        };
+        match out.get(..n) {
+            Some(bytes) => base::same(bytes, wanted),
+            None => false,
+        }
+    }
 }
 
 // Whether each of two forms in hexadecimal digits converts to the other.
 pub(crate) fn both_ways(record_hex: &[u8], listing_hex: &[u8]) -> bool {
     let mut record = [0u8; 28022];
-    let r = bytes_of(record_hex, b'\n', &mut record);
-    if !r.ok {
+    let Some(n) = Form::Record.bytes(record_hex, &mut record) else {
         return false;
-    }
-    let mut listing = [0u8; 22941];
-    let l = bytes_of(listing_hex, b'\n', &mut listing);
-    if !l.ok {
+    };
+    let mut listing = [0u8; 28022];
+    let Some(m) = Form::Listing.bytes(listing_hex, &mut listing) else {
         return false;
-    }
-    let n = r.length;
-    let m = l.length;
-    if !is_listing_of(&listing[0..m], &record[0..n]) {
-        return false;
-    }
-    is_record_of(&record[0..n], &listing[0..m])
+    };
+    Form::Listing.is_made_of(&record[0..n], &listing[0..m])
+        && Form::Record.is_made_of(&listing[0..m], &record[0..n])
 }
 
-// Whether a record in hexadecimal digits is refused with the number that the line says.
-pub(crate) fn record_refused(hex: &[u8], line: &[u8]) -> bool {
-    let mut record = [0u8; 28022];
-    let h = bytes_of(hex, b'\n', &mut record);
-    if !h.ok {
+// Whether a token of a form, in hexadecimal digits, is not converted to another, and refused with
+// the number that the line says.
+pub(crate) fn refused(form: Form, other: Form, hex: &[u8], line: &[u8]) -> bool {
+    let mut bytes = [0u8; 28022];
+    let Some(n) = form.bytes(hex, &mut bytes) else {
         return false;
-    }
-    let n = h.length;
-    let mut out = [0u8; 22940];
-    let c = tokens::to_listing(&record[0..n], &mut out);
-    ends_with_number(line, 0, c.status)
-}
-
-// Whether a listing in hexadecimal digits is refused with the number that the line says.
-pub(crate) fn listing_refused(hex: &[u8], line: &[u8]) -> bool {
-    let mut listing = [0u8; 22941];
-    let h = bytes_of(hex, b'\n', &mut listing);
-    if !h.ok {
-        return false;
-    }
-    let n = h.length;
+    };
     let mut out = [0u8; 28021];
-    let c = tokens::to_record(&listing[0..n], &mut out);
-    ends_with_number(line, 0, c.status)
+    let room = other.most();
+    let status = match other.convert(&bytes[0..n], &mut out[0..room]) {
+        Ok(_) => 0,
+        Err(refusal) => refusal.number(),
+    };
+    ends_with_number(line, 0, status)
 }

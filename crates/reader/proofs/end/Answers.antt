@@ -1,38 +1,35 @@
--- `end` meets its contract. The loop's invariant: the list ends where the entries left from here do. The measure is how many these are.
--- Assumes nothing.
+-- `end` meets its contract. The loop's invariant: the list ends where the entries left from here do. Assumes nothing.
 use Prim.Native.Nat.{ℕ, ◌+◌, ◌-◌}
 use mathlib.Core.Path.{sym, ap, ◌∙◌}
 use native.Mathlib.Omega.{arith}
+use Rattle.base.specs.Bytes.{u16_at}
+use Rattle.lists.specs.Acl.{ace_at}
 use Rattle.lists.specs.declared.acl.Ace.{Ace}
+use Rattle.lists.proofs.EntrySteps.{stands_not, stands_is}
 use Rattle.reader.specs.Reading.{end_from}
 use Rattle.reader.proofs.StepLaws.{end_none, end_stop, end_more, end_left}
 use Rattle.reader.proofs.end.Goals as goal
 
 pub loop-k-init : goal.loop-k-init
-loop-k-init c =
-    let a = c.args in
-    let e = c.u16_at-n.ensures.value in
-    (omega arith, ap (λ (m : ℕ). end_from a.list.now m 8) (omega (arith, e)))
+loop-k-init c = ap (λ (m : ℕ). end_from c.args.list.now m 8) (omega arith)
 
-pub returns-then-a-eq0 : goal.returns-then-a-eq0
-returns-then-a-eq0 c =
+pub returns-in_default : goal.returns-in_default
+returns-in_default c =
     let l = c.args.list.now in
-    let n = c.u16_at-n.result in
-    let e = ap (λ (x : Ace). x.next) c.ace_at-a.ensures.value in
-    sym (c.loop-k.invariant.1 ∙ end_left l n c.loop-k.k c.loop-k.p (omega arith) ∙ end_stop l (n - (c.loop-k.k + 1)) c.loop-k.p (sym e ∙ c.if-a-eq0.true))
+    let n = u16_at l 4 in
+    let none = stands_not (ace_at l c.loop-k.p) (sym c.in_default.is ∙ c.ace_at.ensures.value) in
+    sym (c.loop-k.invariant ∙ end_left l n c.loop-k._k c.loop-k.p (omega arith) ∙ end_stop l (n - (c.loop-k._k + 1)) c.loop-k.p none)
 
 pub loop-k-preserved : goal.loop-k-preserved
 loop-k-preserved c =
     let l = c.args.list.now in
-    let n = c.u16_at-n.result in
-    let e = ap (λ (x : Ace). x.next) c.ace_at-a.ensures.value in (
-      omega arith,
-      c.loop-k.invariant.1 ∙ end_left l n c.loop-k.k c.loop-k.p (omega arith) ∙ end_more l (n - (c.loop-k.k + 1)) c.loop-k.p (λ q. c.if-a-eq0.false (e ∙ q))
-          ∙ ap (end_from l (n - (c.loop-k.k + 1))) (sym e),
-    )
+    let n = u16_at l 4 in
+    let s = stands_is c.in-Some.a (ace_at l c.loop-k.p) c.in-Some.ensures.value in
+    c.loop-k.invariant ∙ end_left l n c.loop-k._k c.loop-k.p (omega arith) ∙ end_more l (n - (c.loop-k._k + 1)) c.loop-k.p s.1
+    ∙ ap (λ (a : Ace). end_from l (n - (c.loop-k._k + 1)) a.next) (sym s.0)
 
 pub returns : goal.returns
 returns c =
     let l = c.args.list.now in
-    let n = c.u16_at-n.result in
-    sym (c.loop-k.invariant.1 ∙ end_none l (n - c.loop-k.k) c.loop-k.p (omega arith))
+    let n = u16_at l 4 in
+    sym (c.loop-k.invariant ∙ end_none l (n - c.loop-k._k) c.loop-k.p (omega arith))

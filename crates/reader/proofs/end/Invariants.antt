@@ -1,13 +1,9 @@
--- `end` meets its contract. The loop's invariant: the list ends where the entries left from here do. The measure is how many these are.
--- Assumes nothing.
-use Prim.Native.Nat.{◌-◌, ◌≤◌}
+-- `end` meets its contract. The loop's invariant: the list ends where the entries left from here do. Assumes nothing.
+use Prim.Native.Nat.{◌-◌}
 use mathlib.Core.Path.{◌≡◌}
 use Rattle.base.specs.Bytes.{u16_at}
 use Rattle.reader.specs.Reading.{end_from}
 use Rattle.reader.proofs.end.Given as goal
 
 abbrev pub invariant-loop-k : goal.invariant-loop-k
-invariant-loop-k l = (l.k ≤ l.n) × (end_from l.list (u16_at l.list 4) 8 ≡ end_from l.list (l.n - l.k) l.p)
-
-abbrev pub decreases-loop-k : goal.decreases-loop-k
-decreases-loop-k l = l.n - l.k
+invariant-loop-k l = end_from l.list (u16_at l.list 4) 8 ≡ end_from l.list (u16_at l.list 4 - l._k) l.p

@@ -1,13 +1,13 @@
 -- `self_fits` meets its contract: the test of the length is that of the definition.
 -- Assumes nothing.
-use borrow.Author.Tests.{eq-eqb, ne_eqb}
+use mathlib.Core.Path.{sym, ◌∙◌}
 use Rattle.access.specs.Status.{self_fits}
 use Rattle.access.proofs.finding.self_fits.Goals as goal
 
-pub returns-then-me-eq0 : goal.returns-then-me-eq0
+pub returns-then-is_empty : goal.returns-then-is_empty
 unfolding self_fits
-returns-then-me-eq0 c = simp (eq-eqb _ _ c.if-me-eq0.true)
+returns-then-is_empty c = rw (sym c.is_empty.ensures ∙ c.if-is_empty.true) c.if-is_empty.true
 
-pub returns : goal.returns
+pub returns-else-is_empty : goal.returns-else-is_empty
 unfolding self_fits
-returns c = simp (ne_eqb _ _ c.if-me-eq0.false) c.is_sid.ensures
+returns-else-is_empty c = rw (sym c.is_empty.ensures ∙ c.if-is_empty.false) c.is_sid.ensures

@@ -10,15 +10,15 @@ pub put-a-requires : goal.put-a-requires
 put-a-requires c =
     let a = c.args in (
       omega (arith, c.requires.0),
-      room_first a.out.now a.o (packed a.source) (packed a.entry ++ packed a.mask.0) c.requires.1,
+      room_first a.out.now a.o (packed a.e.source) (packed a.e.entry ++ packed a.e.mask.0) c.requires.1,
     )
 
 pub put-b-requires : goal.put-b-requires
 put-b-requires c =
     let a = c.args in (
-      omega (arith, c.requires.0, c.put-a.ensures.place, packed_length_32 a.source c.ranges.source.fits),
-      room_first c.put-a.new.out c.put-a.result (packed a.entry) (packed a.mask.0)
-          (room_second (packed a.entry ++ packed a.mask.0) c.put-a.ensures c.requires.1),
+      omega (arith, c.requires.0, c.put-a.ensures.place, packed_length_32 a.e.source (omega arith)),
+      room_first c.put-a.new.out c.put-a.result (packed a.e.entry) (packed a.e.mask.0)
+          (room_second (packed a.e.entry ++ packed a.e.mask.0) c.put-a.ensures c.requires.1),
     )
 
 pub put-requires : goal.put-requires
@@ -29,11 +29,11 @@ put-requires c =
         c.requires.0,
         c.put-a.ensures.place,
         c.put-b.ensures.place,
-        packed_length_32 a.source c.ranges.source.fits,
-        packed_length_32 a.entry c.ranges.entry.fits,
+        packed_length_32 a.e.source (omega arith),
+        packed_length_32 a.e.entry (omega arith),
       ),
-      room_second (packed a.mask.0) c.put-b.ensures
-          (room_second (packed a.entry ++ packed a.mask.0) c.put-a.ensures c.requires.1),
+      room_second (packed a.e.mask.0) c.put-b.ensures
+          (room_second (packed a.e.entry ++ packed a.e.mask.0) c.put-a.ensures c.requires.1),
     )
 
 pub returns : goal.returns
@@ -46,8 +46,8 @@ returns c =
         c.put-a.ensures.place,
         c.put-b.ensures.place,
         c.put.ensures.place,
-        packed_length_32 a.source c.ranges.source.fits,
-        packed_length_32 a.entry c.ranges.entry.fits,
-        packed_length_32 a.mask.0 (omega (arith, c.struct_known-1.given)),
+        packed_length_32 a.e.source (omega arith),
+        packed_length_32 a.e.entry (omega arith),
+        packed_length_32 a.e.mask.0 (omega arith),
       );
     }

@@ -1,6 +1,5 @@
--- `same` meets its contract. The invariant: the lists are the same up to the place that was reached; the measure is what is left up to
--- the last eight bytes, which are the same when the loop begins. Assumes nothing.
-use Prim.Native.Nat.{◌-◌}
+-- `same` meets its contract: where eight bytes differ the lists do, and where none do they are the same. Assumes nothing.
+use Prim.Native.Nat.{◌+◌, ◌-◌}
 use mathlib.Core.Path.{◌≡◌, sym, ◌∙◌}
 use native.Mathlib.Omega.{arith}
 use lib.ListN.{length}
@@ -34,8 +33,8 @@ loop-i-preserved c =
     let e : u64_at a i ≡ u64_at b i = omega arith in
     eight_hit a b ba bb c.if-a-b.false i (omega arith) c.loop-i.invariant e
 
-pub returns : goal.returns
-returns c =
+pub returns-else-u64_at : goal.returns-else-u64_at
+returns-else-u64_at c =
     let a = c.args.a.now in
     let b = c.args.b.now in
     let k = length a - 8 in
@@ -43,3 +42,16 @@ returns c =
     let bb = bytes_of_lt b (λ j l. (c.type_inv.b j).fits) in
     let e : u64_at a k ≡ u64_at b k = omega arith in
     sym (eight_end a b ba bb c.if-a-b.false c.loop-i.i k (omega arith) (omega arith) c.loop-i.invariant e)
+
+pub returns-else-u64_at-2 : goal.returns-else-u64_at-2
+returns-else-u64_at-2 c =
+    let i = c.loop-i.i in
+    let a = c.args.a.now in
+    let b = c.args.b.now in
+    let k = length a - 8 in
+    let ba = bytes_of_lt a (λ j l. (c.type_inv.a j).fits) in
+    let bb = bytes_of_lt b (λ j l. (c.type_inv.b j).fits) in
+    let e : u64_at a k ≡ u64_at b k = omega arith in
+    let f : u64_at a i ≡ u64_at b i = omega arith in
+    let p = eight_hit a b ba bb c.if-a-b.false i (omega arith) c.loop-i.invariant f in
+    sym (eight_end a b ba bb c.if-a-b.false (i + 8) k (omega arith) (omega arith) p e)

@@ -10,11 +10,6 @@ returns-then-s-lt2 c =
     let a = c.args in
     record { value = sym (u16_at_out a.s.now a.at (omega arith)); upper_bound = omega arith }
 
-pub returns-then-s-at : goal.returns-then-s-at
-returns-then-s-at c =
-    let a = c.args in
-    record { value = sym (u16_at_out a.s.now a.at (omega arith)); upper_bound = omega arith }
-
 pub returns : goal.returns
 returns c =
     let a = c.args in

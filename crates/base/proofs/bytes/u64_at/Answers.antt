@@ -8,9 +8,6 @@ use Rattle.base.proofs.bytes.u64_at.Goals as goal
 pub returns-then-s-lt8 : goal.returns-then-s-lt8
 returns-then-s-lt8 c = let a = c.args in sym (u64_at_out a.s.now a.at (omega arith))
 
-pub returns-then-s-at : goal.returns-then-s-at
-returns-then-s-at c = let a = c.args in sym (u64_at_out a.s.now a.at (omega arith))
-
 pub returns : goal.returns
 returns c =
     let a = c.args in

@@ -1,12 +1,8 @@
--- `crowd` meets its contract. The invariant: after i turns there are i identities; the measure is how many are left. Assumes nothing.
-use Prim.Native.Nat.{◌≤◌, ◌-◌}
-use mathlib.Core.Path.{◌≡◌}
-use lib.ListN.{length}
+-- `crowd` meets its contract. The invariant: after i turns there are i identities.
+-- Assumes nothing.
+use Rattle.std.proofs.Common.{◌≡◌}
 use Rattle.converts.specs.Buffers.{build, crowds}
 use Rattle.converts.proofs.largest.crowd.Given as goal
 
 abbrev pub invariant-loop-i : goal.invariant-loop-i
-invariant-loop-i l = (l.i ≤ l.times) × (length l.out ≡ length l.initial.out) × (build l.out l.to ≡ crowds l.head l.word l.tail l.i (build l.initial.out l.at))
-
-abbrev pub decreases-loop-i : goal.decreases-loop-i
-decreases-loop-i l = l.times - l.i
+invariant-loop-i l = build l.out l.to ≡ crowds l.head l.word l.tail l._i (build l.initial.out l.at)

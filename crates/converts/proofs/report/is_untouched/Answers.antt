@@ -1,18 +1,12 @@
--- `is_untouched` meets its contract. The invariant: the bytes are untouched where those that are left are; the measure is what is left of
--- them. Assumes nothing.
-use mathlib.Core.Path.{refl, sym, ◌∙◌}
-use native.Mathlib.Omega.{arith}
-use Rattle.converts.proofs.BuffersLaws.{untouched_hit, untouched_miss, untouched_end}
+-- `is_untouched` meets its contract: each byte is tested.
+-- Assumes nothing.
+use Rattle.std.proofs.Common.{rules, tests, ◌==◌, ◌∙◌}
+use Rattle.std.proofs.lemmas.Iterator.{YieldsList-from_slice}
+use Rattle.std.proofs.lemmas.Iterator.Search.{all_from_yields_List}
+use Rattle.converts.proofs.BuffersLaws.{untouched_all}
 use Rattle.converts.proofs.report.is_untouched.Goals as goal
 
-pub loop-i-init : goal.loop-i-init
-loop-i-init c = (omega arith, refl)
-
-pub returns-then-s-i : goal.returns-then-s-i
-returns-then-s-i c = sym (c.loop-i.invariant.1 ∙ untouched_miss c.args.s.now c.loop-i.i (omega arith) c.if-s-i.true)
-
-pub loop-i-preserved : goal.loop-i-preserved
-loop-i-preserved c = (omega arith, c.loop-i.invariant.1 ∙ untouched_hit c.args.s.now c.loop-i.i (omega arith) c.if-s-i.false)
-
 pub returns : goal.returns
-returns c = sym (c.loop-i.invariant.1 ∙ untouched_end c.args.s.now c.loop-i.i (omega arith))
+returns c =
+    let s = c.args.s.now in
+    all_from_yields_List (λ b. b == 170) _ _ _ c.all.ensures.ran (YieldsList-from_slice s cc) (λ x b q k. search (rules, tests)) ∙ untouched_all s

@@ -1,40 +1,34 @@
--- `acl_end` meets its contract: each way out is a test of the definition that failed, and the last is a list that fits.
+-- `acl_end` meets its contract: each way out is a test of the definition that failed, and the last is one that fits.
 -- Assumes nothing.
 use mathlib.Core.Path.{sym, ◌∙◌}
 use native.Mathlib.Omega.{arith}
-use Rattle.lists.proofs.AclSteps.{acl_end_short, acl_end_other, acl_end_small, acl_end_cut, acl_end_whole}
+use Rattle.base.proofs.FoundLaws.{found_none, found_at}
+use Rattle.lists.specs.Acl.{acl_end}
+use Rattle.lists.proofs.AclSteps.{acl_end_cut, acl_end_other, acl_end_short, acl_end_small, acl_end_whole}
 use Rattle.lists.proofs.acl.acl_end.Goals as goal
 
-pub returns-then-s-lt8 : goal.returns-then-s-lt8
-returns-then-s-lt8 c =
+pub returns-then-s-lt8-clause-value : goal.returns-then-s-lt8-clause-value
+returns-then-s-lt8-clause-value c =
     let a = c.args in
-    record { value = sym (acl_end_short a.s.now a.at (omega arith)); upper_bound = omega arith }
+    found_none (acl_end a.s.now a.at) (acl_end_short a.s.now a.at (omega arith))
 
-pub returns-then-s-at : goal.returns-then-s-at
-returns-then-s-at c =
+pub returns-then-not-is_revision-clause-value : goal.returns-then-not-is_revision-clause-value
+returns-then-not-is_revision-clause-value c =
     let a = c.args in
-    record { value = sym (acl_end_short a.s.now a.at (omega arith)); upper_bound = omega arith }
+    found_none (acl_end a.s.now a.at) (acl_end_other a.s.now a.at (omega arith) (sym c.is_revision.ensures ∙ c.if-not-is_revision.true))
 
-pub returns-then-not-is_revision : goal.returns-then-not-is_revision
-returns-then-not-is_revision c =
+pub returns-then-n-lt8-clause-value : goal.returns-then-n-lt8-clause-value
+returns-then-n-lt8-clause-value c =
     let a = c.args in
-    let r = sym c.is_revision.ensures ∙ c.if-not-is_revision.true in
-    record { value = sym (acl_end_other a.s.now a.at (omega arith) r); upper_bound = omega arith }
+    found_none (acl_end a.s.now a.at) (acl_end_small a.s.now a.at (omega arith) (sym c.is_revision.ensures ∙ c.if-not-is_revision.false) (omega arith))
 
-pub returns-then-n-lt8 : goal.returns-then-n-lt8
-returns-then-n-lt8 c =
+pub returns-then-s-at-2-clause-value : goal.returns-then-s-at-2-clause-value
+returns-then-s-at-2-clause-value c =
     let a = c.args in
-    let r = sym c.is_revision.ensures ∙ c.if-not-is_revision.false in
-    record { value = sym (acl_end_small a.s.now a.at (omega arith) r (omega arith)); upper_bound = omega arith }
+    found_none (acl_end a.s.now a.at) (acl_end_cut a.s.now a.at (omega arith) (sym c.is_revision.ensures ∙ c.if-not-is_revision.false) (omega arith) (omega arith))
 
-pub returns-then-s-at-2 : goal.returns-then-s-at-2
-returns-then-s-at-2 c =
+pub returns-clause-value : goal.returns-clause-value
+returns-clause-value c =
     let a = c.args in
-    let r = sym c.is_revision.ensures ∙ c.if-not-is_revision.false in
-    record { value = sym (acl_end_cut a.s.now a.at (omega arith) r (omega arith) (omega arith)); upper_bound = omega arith }
-
-pub returns : goal.returns
-returns c =
-    let a = c.args in
-    let r = sym c.is_revision.ensures ∙ c.if-not-is_revision.false in
-    record { value = omega (arith, acl_end_whole a.s.now a.at r (omega arith) (omega arith)); upper_bound = omega arith }
+    let w = acl_end_whole a.s.now a.at (sym c.is_revision.ensures ∙ c.if-not-is_revision.false) (omega arith) (omega arith) in
+    found_at (acl_end a.s.now a.at) _ (omega (arith, w)) (λ z. omega arith)

@@ -2,50 +2,37 @@
 -- Assumes nothing.
 use mathlib.Core.Bool.{Bool, cond}
 use mathlib.Core.Path.{sym, ap, ◌∙◌}
-use native.Mathlib.Omega.{arith}
-use Rattle.lists.specs.Acl.{head_end, holds}
-use Rattle.lists.proofs.AclSteps.{head_end_bounds}
+use Rattle.base.specs.Bytes.{found}
+use Rattle.base.proofs.FoundLaws.{found_none, none_found, place_found}
+use Rattle.lists.specs.Acl.{head_end, holds, entry_end}
 use Rattle.lists.proofs.EntrySteps.{entry_end_none, entry_end_foreign, entry_end_judged}
 use Rattle.lists.proofs.acl.entry_end.Goals as goal
 
-pub returns-then-e-eq0 : goal.returns-then-e-eq0
-returns-then-e-eq0 c =
+pub returns-in_err-e-clause-value : goal.returns-in_err-e-clause-value
+returns-in_err-e-clause-value c =
     let a = c.args in
-    record { value = sym (entry_end_none a.deep a.l.now a.at (omega arith)); upper_bound = omega arith }
+    c.from_residual.ensures
+    ∙ found_none (entry_end a.deep a.l.now a.at) (entry_end_none a.deep a.l.now a.at (none_found (head_end a.l.now a.at) c.in_err-e.ensures.value))
 
-pub bounds-l-at : goal.bounds-l-at
-bounds-l-at c =
+pub returns-then-not-is_judged-clause-value : goal.returns-then-not-is_judged-clause-value
+returns-then-not-is_judged-clause-value c =
     let a = c.args in
-    let e = c.head_end-e.ensures.value in
-    let b = head_end_bounds a.l.now a.at (λ q. c.if-e-eq0.false (e ∙ q)) in
-    omega (arith, b.0, b.1)
-
-pub returns-then-not-is_judged : goal.returns-then-not-is_judged
-returns-then-not-is_judged c =
-    let a = c.args in
-    let e = c.head_end-e.ensures.value in
     let k = sym c.is_judged.ensures ∙ c.if-not-is_judged.true in
-    record { value = e ∙ sym (entry_end_foreign a.deep a.l.now a.at k); upper_bound = omega arith }
+    c.in_ok-e.ensures.value ∙ ap found (sym (entry_end_foreign a.deep a.l.now a.at k))
 
-pub holds-requires : goal.holds-requires
-holds-requires c =
+pub returns-then-holds-clause-value : goal.returns-then-holds-clause-value
+returns-then-holds-clause-value c =
     let a = c.args in
-    let e = c.head_end-e.ensures.value in
-    let b = head_end_bounds a.l.now a.at (λ q. c.if-e-eq0.false (e ∙ q)) in
-    (omega (arith, b.0, e), omega (arith, b.1, e))
-
-pub returns-then-holds : goal.returns-then-holds
-returns-then-holds c =
-    let a = c.args in
-    let e = c.head_end-e.ensures.value in
+    let q = place_found (head_end a.l.now a.at) c.in_ok-e.e c.in_ok-e.ensures.value in
     let k = sym c.is_judged.ensures ∙ c.if-not-is_judged.false in
-    let h = sym (ap (holds a.l.now a.at) e) ∙ sym c.holds.ensures ∙ c.if-holds.true in
-    record { value = e ∙ sym (entry_end_judged a.deep a.l.now a.at k ∙ ap (λ (t : Bool). cond t (head_end a.l.now a.at) 0) h); upper_bound = omega arith }
+    let h = ap (holds a.l.now a.at) q.is ∙ sym c.holds.ensures ∙ c.if-holds.true in
+    c.in_ok-e.ensures.value
+    ∙ ap found (sym (entry_end_judged a.deep a.l.now a.at k ∙ ap (λ (t : Bool). cond t (head_end a.l.now a.at) 0) h))
 
-pub returns : goal.returns
-returns c =
+pub returns-else-holds-clause-value : goal.returns-else-holds-clause-value
+returns-else-holds-clause-value c =
     let a = c.args in
-    let e = c.head_end-e.ensures.value in
+    let q = place_found (head_end a.l.now a.at) c.in_ok-e.e c.in_ok-e.ensures.value in
     let k = sym c.is_judged.ensures ∙ c.if-not-is_judged.false in
-    let h = sym (ap (holds a.l.now a.at) e) ∙ sym c.holds.ensures ∙ c.if-holds.false in
-    record { value = sym (entry_end_judged a.deep a.l.now a.at k ∙ ap (λ (t : Bool). cond t (head_end a.l.now a.at) 0) h); upper_bound = omega arith }
+    let h = ap (holds a.l.now a.at) q.is ∙ sym c.holds.ensures ∙ c.if-holds.false in
+    found_none (entry_end a.deep a.l.now a.at) (entry_end_judged a.deep a.l.now a.at k ∙ ap (λ (t : Bool). cond t (head_end a.l.now a.at) 0) h)

@@ -1,37 +1,34 @@
--- `head_end` meets its contract: each way out is a test of the definition that failed, and the last is an entry that fits.
+-- `head_end` meets its contract: each way out is a test of the definition that failed, and the last is one that fits.
 -- Assumes nothing.
-use mathlib.Core.Path.{sym}
 use native.Mathlib.Omega.{arith}
-use Rattle.lists.proofs.AclSteps.{head_end_short, head_end_odd, head_end_small, head_end_cut, head_end_whole}
+use Rattle.base.proofs.FoundLaws.{found_none, found_at}
+use Rattle.lists.specs.Acl.{head_end}
+use Rattle.lists.proofs.AclSteps.{head_end_cut, head_end_odd, head_end_short, head_end_small, head_end_whole}
 use Rattle.lists.proofs.acl.head_end.Goals as goal
 
-pub returns-then-l-lt4 : goal.returns-then-l-lt4
-returns-then-l-lt4 c =
+pub returns-then-l-lt4-clause-value : goal.returns-then-l-lt4-clause-value
+returns-then-l-lt4-clause-value c =
     let a = c.args in
-    record { value = sym (head_end_short a.l.now a.at (omega arith)); upper_bound = omega arith }
+    found_none (head_end a.l.now a.at) (head_end_short a.l.now a.at (omega arith))
 
-pub returns-then-l-at : goal.returns-then-l-at
-returns-then-l-at c =
-    let a = c.args in
-    record { value = sym (head_end_short a.l.now a.at (omega arith)); upper_bound = omega arith }
-
-pub returns-then-n-ne0 : goal.returns-then-n-ne0
-returns-then-n-ne0 c =
+pub returns-then-n-ne0-clause-value : goal.returns-then-n-ne0-clause-value
+returns-then-n-ne0-clause-value c =
     let a = c.args in
     let e = c.u16_at-n.ensures.value in
-    record { value = sym (head_end_odd a.l.now a.at (omega arith) (λ q. omega (arith, e, c.if-n-ne0.true))); upper_bound = omega arith }
+    found_none (head_end a.l.now a.at) (head_end_odd a.l.now a.at (omega arith) (λ q. omega (arith, e, c.if-n-ne0.true)))
 
-pub returns-then-n-lt4 : goal.returns-then-n-lt4
-returns-then-n-lt4 c =
+pub returns-then-n-lt4-clause-value : goal.returns-then-n-lt4-clause-value
+returns-then-n-lt4-clause-value c =
     let a = c.args in
-    record { value = sym (head_end_small a.l.now a.at (omega arith) (omega arith) (omega arith)); upper_bound = omega arith }
+    found_none (head_end a.l.now a.at) (head_end_small a.l.now a.at (omega arith) (omega arith) (omega arith))
 
-pub returns-then-l-at-2 : goal.returns-then-l-at-2
-returns-then-l-at-2 c =
+pub returns-then-l-at-2-clause-value : goal.returns-then-l-at-2-clause-value
+returns-then-l-at-2-clause-value c =
     let a = c.args in
-    record { value = sym (head_end_cut a.l.now a.at (omega arith) (omega arith) (omega arith) (omega arith)); upper_bound = omega arith }
+    found_none (head_end a.l.now a.at) (head_end_cut a.l.now a.at (omega arith) (omega arith) (omega arith) (omega arith))
 
-pub returns : goal.returns
-returns c =
+pub returns-clause-value : goal.returns-clause-value
+returns-clause-value c =
     let a = c.args in
-    record { value = omega (arith, head_end_whole a.l.now a.at (omega arith) (omega arith) (omega arith)); upper_bound = omega arith }
+    let w = head_end_whole a.l.now a.at (omega arith) (omega arith) (omega arith) in
+    found_at (head_end a.l.now a.at) _ (omega (arith, w)) (λ z. omega arith)

@@ -18,11 +18,11 @@ returns-then-l-at-ne1 c =
 pub returns-then-n-gt15 : goal.returns-then-n-gt15
 returns-then-n-gt15 c =
     let a = c.args in
-    sym (holds_many a.l.now a.at a.e c.requires.1 (omega arith) c.if-l-at-ne1.false c.wide-n.result c.wide-n.ensures.0
+    sym (holds_many a.l.now a.at a.e c.requires.1 (omega arith) c.if-l-at-ne1.false c.from-n.result c.from-n.ensures
     c.if-n-gt15.true)
 
 pub returns : goal.returns
 returns c =
     let a = c.args in
-    sym (holds_by_count a.l.now a.at a.e c.requires.1 (omega arith) c.if-l-at-ne1.false c.wide-n.result c.wide-n.ensures.0
+    sym (holds_by_count a.l.now a.at a.e c.requires.1 (omega arith) c.if-l-at-ne1.false c.from-n.result c.from-n.ensures
     (omega arith))

@@ -1,65 +1,72 @@
 -- `scan_all` meets its contract. The loop's invariant: the list comes to what the entries left come to, something foreign met or not.
--- The measure is how many entries are left.
 -- Assumes nothing.
 use Prim.Native.Nat.{ℕ, ◌+◌, ◌-◌}
-use mathlib.Core.Bool.{Bool, false, cond, ◌||◌}
+use mathlib.Core.Bool.{Bool, false, cond}
 use mathlib.Core.Path.{sym, ap, ◌∙◌}
 use native.Mathlib.Omega.{arith}
-use Rattle.conditions.specs.declared.scan.Scan.TheVariants.{Foreign, Plain}
-use Rattle.conditions.specs.Scanning.{is_broken, is_foreign}
-use Rattle.lists.proofs.EntrySteps.{Left, entry_end_bounds, scan_start, scan_end, scan_broken, scan_spoilt, scan_more}
+use Rattle.base.specs.Bytes.{u16_at}
+use Rattle.base.proofs.FoundLaws.{none_found, place_found}
+use Rattle.conditions.specs.Scanning.{is_broken, scan_result}
+use Rattle.conditions.specs.Scanning.Scan.{Foreign, Plain}
+use Rattle.lists.specs.Acl.{entry_end, content_of}
+use Rattle.lists.proofs.EntrySteps.{Left, scan_start, scan_end, scan_broken, scan_spoilt, scan_plain, scan_alien}
+use Rattle.lists.proofs.EntrySteps.{content_broken, content_other, content_fine}
+use Rattle.lists.proofs.acl.scan_all.Goals.{in-Ok, in-Err-Foreign}
 use Rattle.lists.proofs.acl.scan_all.Goals as goal
 
 pub loop-k-init : goal.loop-k-init
 loop-k-init c =
     let a = c.args in
-    let e = c.u16_at-n.ensures.value in
-    (omega arith, scan_start a.deep a.l.now ∙ ap (λ (m : ℕ). Left a.deep a.l.now false m 8) (omega (arith, e)))
+    scan_start a.deep a.l.now ∙ ap (λ (m : ℕ). Left a.deep a.l.now false m 8) (omega arith)
 
-pub returns-then-e-eq0 : goal.returns-then-e-eq0
-returns-then-e-eq0 c =
+pub returns-in_default : goal.returns-in_default
+returns-in_default c =
     let a = c.args in
-    let n = c.u16_at-n.result in
-    sym (c.loop-k.invariant.1 ∙ scan_broken a.deep a.l.now c.loop-k.alien n c.loop-k.k c.loop-k.at (omega arith) (omega arith))
+    let none = none_found (entry_end a.deep a.l.now c.loop-k.at) (sym c.in_default.is ∙ c.entry_end.ensures.value) in
+    sym (ap scan_result (c.loop-k.invariant
+    ∙ scan_broken a.deep a.l.now c.loop-k.alien (u16_at a.l.now 4) c.loop-k._k c.loop-k.at (omega arith) none))
 
-pub content-found-requires : goal.content-found-requires
-content-found-requires c =
+pub content-requires : goal.content-requires
+content-requires c =
     let a = c.args in
-    let e = c.entry_end-e.ensures.value in
-    let b = entry_end_bounds a.deep a.l.now c.loop-k.at (λ q. c.if-e-eq0.false (e ∙ q)) in
-    record { at_lt_e = (omega (arith, b.0, e), omega (arith, b.1, e)); at_value = sym e }
+    let p = place_found (entry_end a.deep a.l.now c.loop-k.at) c.in-Some.e c.in-Some.ensures.value in
+    let i = c.in-Some.ensures.inside in
+    record { at_lt_e = (omega (arith, i.0), omega (arith, i.1)); at_value = p.is }
 
-pub returns-then-is_broken : goal.returns-then-is_broken
-returns-then-is_broken c =
+pub returns-in-Err-Broken : goal.returns-in-Err-Broken
+returns-in-Err-Broken c =
     let a = c.args in
-    let n = c.u16_at-n.result in
-    let b = sym (ap is_broken c.content-found.ensures) ∙ sym c.is_broken.ensures ∙ c.if-is_broken.true in
-    sym (c.loop-k.invariant.1 ∙ scan_spoilt a.deep a.l.now c.loop-k.alien n c.loop-k.k c.loop-k.at c.entry_end-e.result c.entry_end-e.ensures.value
-    c.if-e-eq0.false (omega arith) b)
+    let p = place_found (entry_end a.deep a.l.now c.loop-k.at) c.in-Some.e c.in-Some.ensures.value in
+    let b = ap is_broken (content_broken (content_of a.deep a.l.now c.loop-k.at c.in-Some.e) _ c.in-Err-Broken.field-0-is
+    (sym c.in-Err-Broken.is ∙ c.content.ensures)) in
+    sym (ap scan_result (c.loop-k.invariant
+    ∙ scan_spoilt a.deep a.l.now c.loop-k.alien (u16_at a.l.now 4) c.loop-k._k c.loop-k.at c.in-Some.e (sym p.is) p.there (omega arith) b))
 
 pub loop-k-preserved : goal.loop-k-preserved
 loop-k-preserved c =
     let a = c.args in
-    let n = c.u16_at-n.result in
-    let f = c.content-found.ensures in
-    let b = sym (ap is_broken f) ∙ sym c.is_broken.ensures ∙ c.if-is_broken.false in (
-      omega arith,
-      c.loop-k.invariant.1 ∙ scan_more a.deep a.l.now c.loop-k.alien n c.loop-k.k c.loop-k.at c.entry_end-e.result c.entry_end-e.ensures.value
-          c.if-e-eq0.false (omega arith) b
-          ∙ ap (λ (t : Bool). Left a.deep a.l.now t (n - (c.loop-k.k + 1)) c.entry_end-e.result)
-          (sym (c.either-alien.ensures ∙ ap (λ (t : Bool). c.loop-k.alien || t) (c.is_foreign.ensures ∙ ap is_foreign f))),
-    )
+    let p = place_found (entry_end a.deep a.l.now c.loop-k.at) c.in-Some.e c.in-Some.ensures.value in
+    let at = c.loop-k.at in
+    let to = c.in-Some.e in
+    let left = λ (t : Bool). Left a.deep a.l.now t (u16_at a.l.now 4 - (c.loop-k._k + 1)) to in
+    c.loop-k.invariant
+    ∙ elim c.match-content.branch [
+      | in-Ok w ↦ scan_plain a.deep a.l.now c.loop-k.alien (u16_at a.l.now 4) c.loop-k._k at to (sym p.is) p.there (omega arith)
+          (content_fine (content_of a.deep a.l.now at to) _ (sym w.in-Ok.is ∙ c.content.ensures))
+          ∙ ap left (sym w.alien-is)
+      | in-Err-Foreign w ↦ scan_alien a.deep a.l.now c.loop-k.alien (u16_at a.l.now 4) c.loop-k._k at to (sym p.is) p.there (omega arith)
+          (content_other (content_of a.deep a.l.now at to) _ w.in-Err-Foreign.field-0-is (sym w.in-Err-Foreign.is ∙ c.content.ensures))
+          ∙ ap left (sym w.alien-is)
+    ]
 
 pub returns-then-alien : goal.returns-then-alien
 returns-then-alien c =
     let a = c.args in
-    let n = c.u16_at-n.result in
-    let e = scan_end a.deep a.l.now c.loop-k.alien n c.loop-k.k c.loop-k.at (omega arith) in
-    sym (c.loop-k.invariant.1 ∙ e ∙ ap (λ (t : Bool). cond t Foreign Plain) c.if-alien.true)
+    let e = scan_end a.deep a.l.now c.loop-k.alien (u16_at a.l.now 4) c.loop-k._k c.loop-k.at (omega arith) in
+    sym (ap scan_result (c.loop-k.invariant ∙ e ∙ ap (λ (t : Bool). cond t Foreign Plain) c.if-alien.true))
 
-pub returns : goal.returns
-returns c =
+pub returns-else-alien : goal.returns-else-alien
+returns-else-alien c =
     let a = c.args in
-    let n = c.u16_at-n.result in
-    let e = scan_end a.deep a.l.now c.loop-k.alien n c.loop-k.k c.loop-k.at (omega arith) in
-    sym (c.loop-k.invariant.1 ∙ e ∙ ap (λ (t : Bool). cond t Foreign Plain) c.if-alien.false)
+    let e = scan_end a.deep a.l.now c.loop-k.alien (u16_at a.l.now 4) c.loop-k._k c.loop-k.at (omega arith) in
+    sym (ap scan_result (c.loop-k.invariant ∙ e ∙ ap (λ (t : Bool). cond t Foreign Plain) c.if-alien.false))

@@ -55,7 +55,7 @@ stepped c down e =
     let after = c.next-after.result in
     c.loop-n.invariant.1
     ∙ miss a.allow a.seats.now a.listing.now a.w.now c.loop-n.n (c.loop-n.n - 1) _
-    (omega (arith, c.if-n-eq0.false)) refl
+    (omega (arith, c.loop-n-test.true)) refl
     c.loop-n.down c.is_near.result after
     (sym c.sits.ensures ∙ c.if-sits.false)
     c.next-after.ensures.0 c.is_near.ensures
@@ -65,16 +65,16 @@ stepped c down e =
 pub loop-n-init : goal.loop-n-init
 loop-n-init c = (c.requires, refl)
 
-pub returns-then-n-eq0 : goal.returns-then-n-eq0
-returns-then-n-eq0 c =
+pub returns : goal.returns
+returns c =
     let a = c.args in
-    sym (c.loop-n.invariant.1 ∙ none a.allow a.seats.now a.listing.now a.w.now c.loop-n.n c.loop-n.down c.if-n-eq0.true)
+    sym (c.loop-n.invariant.1 ∙ none a.allow a.seats.now a.listing.now a.w.now c.loop-n.n c.loop-n.down c.loop-n-test.false)
 
 pub returns-then-sits : goal.returns-then-sits
 returns-then-sits c =
     let a = c.args in
     sym (c.loop-n.invariant.1 ∙ hit a.allow a.seats.now a.listing.now a.w.now c.loop-n.n (c.loop-n.n - 1) _
-    (omega (arith, c.if-n-eq0.false)) refl c.loop-n.down (sym c.sits.ensures ∙ c.if-sits.true))
+    (omega (arith, c.loop-n-test.true)) refl c.loop-n.down (sym c.sits.ensures ∙ c.if-sits.true))
 
 pub loop-n-preserved-then-down : goal.loop-n-preserved-then-down
 loop-n-preserved-then-down c =
@@ -86,12 +86,12 @@ loop-n-preserved-then-down c =
 
 pub loop-n-smaller : goal.loop-n-smaller
 loop-n-smaller c =
-    far_below c.loop-n.n c.next-after.result c.if-n-eq0.false
+    far_below c.loop-n.n c.next-after.result c.loop-n-test.true
     (sym c.is_near.ensures ∙ (neither c.loop-n.down c.is_near.result (sym (turned (goal.at.loop-n-smaller c).Joined-is_near) ∙ c.if-down.false)).1)
 
 pub loop-n-preserved : goal.loop-n-preserved
 loop-n-preserved c =
-    let less = far_below c.loop-n.n c.next-after.result c.if-n-eq0.false
+    let less = far_below c.loop-n.n c.next-after.result c.loop-n-test.true
     (sym c.is_near.ensures ∙ (neither c.loop-n.down c.is_near.result (sym (turned (goal.at.loop-n-preserved c).Joined-is_near) ∙ c.if-down.false)).1) in
     let a = c.args in (
       omega (arith, less, c.loop-n.invariant.0),

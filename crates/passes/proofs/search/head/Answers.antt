@@ -7,21 +7,21 @@ use lib.ListN.{length, get_or}
 use Rattle.seats.specs.Key.{key_of}
 use Rattle.passes.proofs.ChainsLaws.{head_past, head_within}
 use Rattle.passes.proofs.search.head.Goals as goal
-use Rattle.passes.proofs.search.head.Goals.{After-wide-n}
+use Rattle.passes.proofs.search.head.Goals.{After-from-n}
 
 -- what was read is the head of the SID's key
-read : (c : After-wide-n) → c.wide-n.result ≡ get_or c.args.heads.now
+read : (c : After-from-n) → c.from-n.result ≡ get_or c.args.heads.now
     (key_of c.args.w.now) 0
-read c = c.wide-n.ensures.0 ∙ ap (λ (k : ℕ). get_or c.args.heads.now k 0)
+read c = c.from-n.ensures ∙ ap (λ (k : ℕ). get_or c.args.heads.now k 0)
     c.key-k.ensures.value
 
 pub returns-then-seats-n : goal.returns-then-seats-n
 returns-then-seats-n c =
     let a = c.args in
-    record { value = sym (head_past a.heads.now a.seats.now a.w.now c.wide-n.result (read (goal.at.returns-then-seats-n c).After-wide-n) c.if-seats-n.true); upper_bound = omega arith }
+    record { value = sym (head_past a.heads.now a.seats.now a.w.now c.from-n.result (read (goal.at.returns-then-seats-n c).After-from-n) c.if-seats-n.true); upper_bound = omega arith }
 
 pub returns : goal.returns
 returns c =
     let a = c.args in
-    let within : c.wide-n.result < length a.seats.now = omega (arith, c.if-seats-n.false) in
-    record { value = sym (head_within a.heads.now a.seats.now a.w.now c.wide-n.result (read (goal.at.returns c).After-wide-n) within); upper_bound = omega arith }
+    let within : c.from-n.result < length a.seats.now = omega (arith, c.if-seats-n.false) in
+    record { value = sym (head_within a.heads.now a.seats.now a.w.now c.from-n.result (read (goal.at.returns c).After-from-n) within); upper_bound = omega arith }

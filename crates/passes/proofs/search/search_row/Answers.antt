@@ -1,9 +1,9 @@
 -- `search_row` meets its contract. The invariant of both loops: the row from this number down has the SID where the whole row has it; the
 -- measure is the number. Assumes nothing.
-use Prim.Native.Nat.{ℕ, ◌-◌}
+use Prim.Native.Nat.{ℕ, ◌+◌, ◌-◌}
 use mathlib.Core.Bool.{Bool, ◌||◌}
 use mathlib.Core.List.{List}
-use mathlib.Core.Path.{refl, sym, ap, ◌∙◌}
+use mathlib.Core.Path.{◌≡◌, refl, sym, ap, ◌∙◌}
 use native.Mathlib.Omega.{arith}
 use lib.Dec.{eqb}
 use lib.ListN.{get_or}
@@ -30,8 +30,10 @@ fours-preserved c =
           ∙ sym c.one_ends.ensures ∙ c.if-one_ends.false),
     )
 
-pub loop-n-init : goal.loop-n-init
-loop-n-init c = c.fours.invariant
+pub loop-i-init : goal.loop-i-init
+loop-i-init c =
+    let same : c.fours.n + 1 - 1 ≡ c.fours.n = omega arith in
+    (omega arith, (omega arith, rw same c.fours.invariant.1))
 
 pub sits-requires : goal.sits-requires
 sits-requires c = c.last-word.ensures
@@ -39,24 +41,26 @@ sits-requires c = c.last-word.ensures
 pub returns-then-sits : goal.returns-then-sits
 returns-then-sits c =
     let a = c.args in
-    sym (c.loop-n.invariant.1
-    ∙ row_hit a.allow a.seats.now a.listing.now a.w.now c.loop-n.n (c.loop-n.n - 1) _ (omega (
-      arith,
-      c.loop-n-test.true,
-    )) refl (sym c.sits.ensures ∙ c.if-sits.true))
+    sym (c.loop-i.invariant.1.1
+    ∙ row_hit a.allow a.seats.now a.listing.now a.w.now (c.loop-i.i - 1) (c.loop-i.i - 1 - 1) _ (omega (arith, c.loop-i-test.true)) refl
+    (sym c.sits.ensures ∙ c.if-sits.true))
 
-pub loop-n-preserved : goal.loop-n-preserved
-loop-n-preserved c =
-    let a = c.args in (
-      omega (arith, c.loop-n.invariant.0),
-      c.loop-n.invariant.1
-          ∙ row_more a.allow a.seats.now a.listing.now a.w.now c.loop-n.n (c.loop-n.n - 1) _ (omega (
-            arith,
-            c.loop-n-test.true,
-          )) refl (sym c.sits.ensures ∙ c.if-sits.false),
+pub loop-i-preserved : goal.loop-i-preserved
+loop-i-preserved c =
+    let a = c.args in
+    let last = c.loop-i.auto.i in (
+      omega (arith, c.loop-i-test.true),
+      (
+        omega (arith, last),
+        c.loop-i.invariant.1.1
+            ∙ row_more a.allow a.seats.now a.listing.now a.w.now (c.loop-i.i - 1) (c.loop-i.i - 1 - 1) _ (omega (
+              arith,
+              c.loop-i-test.true,
+            )) refl (sym c.sits.ensures ∙ c.if-sits.false),
+      ),
     )
 
 pub returns : goal.returns
 returns c =
     let a = c.args in
-    sym (c.loop-n.invariant.1 ∙ row_none a.allow a.seats.now a.listing.now a.w.now c.loop-n.n (omega (arith, c.loop-n-test.false)))
+    sym (c.loop-i.invariant.1.1 ∙ row_none a.allow a.seats.now a.listing.now a.w.now (c.loop-i.i - 1) (omega (arith, c.loop-i-test.false)))

@@ -1,6 +1,6 @@
 -- `search_row` meets its contract. The invariant of both loops: the row from this number down has the SID where the whole row has it; the
 -- measure is the number. Assumes nothing.
-use Prim.Native.Nat.{◌-◌, ◌≤◌}
+use Prim.Native.Nat.{◌+◌, ◌-◌, ◌≤◌}
 use mathlib.Core.Path.{◌≡◌}
 use lib.ListN.{length}
 use Rattle.passes.specs.Chains.{row}
@@ -13,8 +13,8 @@ invariant-fours l = (l.n ≤ length l.seats - 1) × (among l.allow (row l.seats 
 abbrev pub decreases-fours : goal.decreases-fours
 decreases-fours l = l.n
 
-abbrev pub invariant-loop-n : goal.invariant-loop-n
-invariant-loop-n l = (l.n ≤ length l.seats - 1) × (among l.allow (row l.seats l.listing l.from) l.w ≡ among l.allow (row l.seats l.listing l.n) l.w)
-
-abbrev pub decreases-loop-n : goal.decreases-loop-n
-decreases-loop-n l = l.n
+abbrev pub invariant-loop-i : goal.invariant-loop-i
+invariant-loop-i l =
+    (1 ≤ l.i)
+    × ((l.i ≤ l.n + 1)
+    × (among l.allow (row l.seats l.listing l.from) l.w ≡ among l.allow (row l.seats l.listing (l.i - 1)) l.w))

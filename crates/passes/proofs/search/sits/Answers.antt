@@ -18,17 +18,17 @@ returns-then-listing-to c =
     let a = c.args in
     sym (sits_out a.allow a.listing.now a.x a.w.now c.if-listing-to.true)
 
-pub returns-then-not-ready : goal.returns-then-not-ready
-returns-then-not-ready c =
+pub returns-else-ready : goal.returns-else-ready
+returns-else-ready c =
     let a = c.args in
-    sym (sits_idle a.allow a.listing.now a.x a.w.now (sym c.ready.ensures ∙ c.if-not-ready.true))
+    c.if-ready.false ∙ sym (sits_idle a.allow a.listing.now a.x a.w.now (sym c.ready.ensures ∙ c.if-ready.false))
 
-pub returns : goal.returns
-returns c =
+pub returns-then-ready : goal.returns-then-ready
+returns-then-ready c =
     let a = c.args in
     c.same.ensures
     ∙ sits_same a.allow a.listing.now a.x a.w.now
     (ap (eqb (last_in a.x)) (sym c.requires)
     ∙ sym c.ends.ensures ∙ c.if-not-ends.false)
     (omega (arith, c.if-listing-to.false))
-    (sym c.ready.ensures ∙ c.if-not-ready.false)
+    (sym c.ready.ensures ∙ c.if-ready.true)

@@ -1,41 +1,32 @@
 -- `policy::rules::ruled_by` meets its contract. The loop's invariant: what all rules leave is what the rules ahead leave of what is left
--- so far. The measure is the number of rules ahead. Assumes nothing.
+-- so far. Assumes nothing.
 use Prim.Native.Nat.{ℕ}
 use mathlib.Core.Path.{sym, ap, ◌∙◌}
-use native.Mathlib.Omega.{arith}
-use Rattle.passes.specs.Chains.{shown}
-use Rattle.policy.specs.Rules.{unruled}
-use Rattle.policy.proofs.RulesSteps.{Left, left_end, left_stop, left_more}
+use mathlib.Core.List.{List, ◌∷◌}
+use Rattle.passes.specs.Crowds.{shown_in}
+use Rattle.policy.specs.ByLengths.{lists_by_lengths}
+use Rattle.policy.specs.Walking.{rules_left}
+use Rattle.policy.proofs.RulesSteps.{left_more, left_none}
 use Rattle.policy.proofs.rules.ruled_by.Goals as goal
 
-pub loop-k-init : goal.loop-k-init
-loop-k-init c =
-    let a = c.args in (
-      omega arith,
-      ap
-          (λ (m : ℕ). Left a.kind (shown a.heads.now a.seats.now a.listing.now) a.hits a.privileges a.s.now unruled
-          m 5)
-          (omega (arith, c.u32_at-n.ensures)),
-    )
-
-pub returns-then-next-eq0 : goal.returns-then-next-eq0
-returns-then-next-eq0 c =
+pub loop-r-preserved : goal.loop-r-preserved
+loop-r-preserved c =
     let a = c.args in
-    sym
-    (c.loop-k.invariant.1
-    ∙ left_stop a.kind (shown a.heads.now a.seats.now a.listing.now) a.hits a.privileges a.s.now c.loop-k.so_far c.u32_at-n.result c.loop-k.k c.loop-k.place c.rule_by_lengths-r.result (omega arith) c.rule_by_lengths-r.ensures.value c.if-next-eq0.true)
-
-pub loop-k-preserved : goal.loop-k-preserved
-loop-k-preserved c =
-    let a = c.args in (
-      omega arith,
-      c.loop-k.invariant.1
-          ∙ left_more a.kind (shown a.heads.now a.seats.now a.listing.now) a.hits a.privileges a.s.now c.loop-k.so_far
-          c.u32_at-n.result c.loop-k.k c.loop-k.place c.rule_by_lengths-r.result c.judged-so_far.result
-          (omega arith) c.rule_by_lengths-r.ensures.value c.if-next-eq0.false c.judged-so_far.ensures,
+    let l = c.loop-r in
+    let g = c.in-Some.ensures.steps in
+    let e = g.0 ∙ ap (λ (s : List ℕ). lists_by_lengths s c.in-Some.r ∷ rules_left c.next.new.self) l.invariant.3 in (
+      tt,
+      tt,
+      l.invariant.2
+          ∙ left_more a.kind (shown_in a.crowd) a.crowd.hits a.privileges l.so_far c.judged-so_far.result (rules_left l.r-iterator)
+          (lists_by_lengths a.s.now c.in-Some.r) (rules_left c.next.new.self) e c.judged-so_far.ensures,
+      g.1.1 ∙ l.invariant.3,
     )
 
 pub returns : goal.returns
 returns c =
     let a = c.args in
-    sym (c.loop-k.invariant.1 ∙ left_end a.kind (shown a.heads.now a.seats.now a.listing.now) a.hits a.privileges a.s.now c.loop-k.so_far c.u32_at-n.result c.loop-k.k c.loop-k.place (omega arith))
+    let l = c.loop-r in
+    sym
+    (l.invariant.2
+    ∙ left_none a.kind (shown_in a.crowd) a.crowd.hits a.privileges l.so_far (rules_left l.r-iterator) c.in-None.ensures.steps)

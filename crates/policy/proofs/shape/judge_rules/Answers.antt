@@ -1,47 +1,46 @@
 -- `policy::shape::judge_rules` meets its contract. The loop's invariant: the standing of all rules is that of the rules that are left,
--- after something unread was met or not. The measure is the number of rules left. Assumes nothing.
-use Prim.Native.Nat.{ℕ}
+-- after something unread was met or not. Assumes nothing.
 use mathlib.Core.Path.{sym, ap, ◌∙◌}
-use mathlib.Core.Bool.{Bool, false, cond}
+use mathlib.Core.Bool.{Bool, cond}
 use native.Mathlib.Omega.{arith}
-use Rattle.policy.specs.declared.shape.Standing.TheVariants.{Sound, Unread}
-use Rattle.policy.proofs.PolicySteps.{Left, rules_end, rules_over, rules_broken, rules_more}
+use Rattle.policy.specs.Standing.{judged}
+use Rattle.policy.specs.Standing.Standing.{Sound, Unread}
+use Rattle.policy.proofs.PolicySteps.{rules_end, rules_over, rules_broken, rules_more}
 use Rattle.policy.proofs.shape.judge_rules.Goals as goal
 
-pub loop-k-init : goal.loop-k-init
-loop-k-init c = let a = c.args in (omega arith, ap (λ (m : ℕ). Left a.s.now false m 5) (omega arith))
+pub returns-in_default : goal.returns-in_default
+returns-in_default c =
+    let l = c.loop in
+    sym
+    (ap judged
+    (l.invariant
+    ∙ rules_broken c.args.s.now l.unread c.args.n l.counter l.at (omega arith) (sym c.in_default.is ∙ c.rule_at.ensures.value)))
 
-pub returns-then-next-eq0 : goal.returns-then-next-eq0
-returns-then-next-eq0 c =
-    let a = c.args in
-    sym (c.loop-k.invariant.1 ∙ rules_broken a.s.now c.loop-k.unread a.n c.loop-k.k c.loop-k.at c.rule_at-r.result (omega arith) c.rule_at-r.ensures.value c.if-next-eq0.true)
-
-pub loop-k-preserved : goal.loop-k-preserved
-loop-k-preserved c =
-    let a = c.args in (
-      omega arith,
-      c.loop-k.invariant.1
-          ∙ rules_more a.s.now c.loop-k.unread a.n c.loop-k.k c.loop-k.at c.rule_at-r.result c.either-unread.result (omega arith) c.rule_at-r.ensures.value
-          c.if-next-eq0.false c.either-unread.ensures,
-    )
+pub loop-preserved : goal.loop-preserved
+loop-preserved c =
+    let l = c.loop in
+    l.invariant
+    ∙ rules_more c.args.s.now l.unread c.args.n l.counter l.at c.in-Some.r (omega arith) (sym c.in-Some.is ∙ c.rule_at.ensures.value)
 
 pub returns-then-at-s : goal.returns-then-at-s
 returns-then-at-s c =
-    let a = c.args in
-    sym (c.loop-k.invariant.1 ∙ rules_over a.s.now c.loop-k.unread a.n c.loop-k.k c.loop-k.at (omega arith) (λ q. omega (arith, c.if-at-s.true)))
+    let l = c.loop in
+    sym (ap judged (l.invariant ∙ rules_over c.args.s.now l.unread c.args.n l.counter l.at (omega arith) c.if-at-s.true))
 
 pub returns-then-unread : goal.returns-then-unread
 returns-then-unread c =
-    let a = c.args in
+    let l = c.loop in
     sym
-    (c.loop-k.invariant.1
-    ∙ rules_end a.s.now c.loop-k.unread a.n c.loop-k.k c.loop-k.at (omega arith) (omega arith)
-    ∙ ap (λ (t : Bool). cond t Unread Sound) c.if-unread.true)
+    (ap judged
+    (l.invariant
+    ∙ rules_end c.args.s.now l.unread c.args.n l.counter l.at (omega arith) (omega arith)
+    ∙ ap (λ (t : Bool). cond t Unread Sound) c.if-unread.true))
 
 pub returns : goal.returns
 returns c =
-    let a = c.args in
+    let l = c.loop in
     sym
-    (c.loop-k.invariant.1
-    ∙ rules_end a.s.now c.loop-k.unread a.n c.loop-k.k c.loop-k.at (omega arith) (omega arith)
-    ∙ ap (λ (t : Bool). cond t Unread Sound) c.if-unread.false)
+    (ap judged
+    (l.invariant
+    ∙ rules_end c.args.s.now l.unread c.args.n l.counter l.at (omega arith) (omega arith)
+    ∙ ap (λ (t : Bool). cond t Unread Sound) c.if-unread.false))

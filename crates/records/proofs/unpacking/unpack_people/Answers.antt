@@ -1,166 +1,131 @@
 -- `unpack_people`: what the confinement comes to after the user, the count and the groups, or nothing where the flags say so. Without
 -- flags, clean user and clean groups make a token that keeps the rules.
 -- Assumes nothing.
--- what follows the group count
-use Prim.Native.Nat.{ℕ, ◌+◌, ◌*◌, ◌≤◌}
+use Prim.Native.Nat.{ℕ, ◌+◌}
 use mathlib.Core.Path.{◌≡◌, refl, sym, ◌∙◌}
 use mathlib.Core.List.{List}
 use mathlib.Core.Bool.{true}
 use native.Mathlib.Omega.{arith}
-use borrow.Author.Tests.{not-false}
 use lib.ListN.{length}
-use Rattle.base.specs.Bytes.{Read}
+use lib.Seq.{sets}
+use Rattle.std.specs.Prelude.{Some}
+use Rattle.base.specs.Bytes.{Read, little}
+use Rattle.base.specs.Sevens.{num_of}
+use Rattle.base.specs.declared.sevens.Num.{Num}
 use Rattle.base.proofs.BoolLaws.{both}
 use Rattle.records.specs.Token.{confined}
-use Rattle.records.specs.Fields.{people_at}
-use Rattle.records.specs.TokenRecord.{packed_reader}
-use Rattle.records.specs.Unpacking.{outcome, then, copied, member_copied, rest_copied, groups_copied, people_copied, Within}
-use Rattle.records.specs.Clean.{Such, Keeping}
+use Rattle.records.specs.TokenRecord.{packed_identity}
+use Rattle.records.specs.Unpacking.{outcome, then, copied, left, limited, member_copied, rest_copied, groups_copied, people_copied, Within}
+use Rattle.records.specs.declared.unpacking.Step.{Step}
 use Rattle.records.proofs.UnpackLaws.{counted_refused, counted_done, rest_none, rest_some}
 use Rattle.records.proofs.StepLaws.{after_refused, after_done, step_done}
-use Rattle.records.proofs.RoomLaws.{Counted, room_left, room_same, refused_within, counted_room, within_after, limited_past}
-use Rattle.records.proofs.CleanLaws.{unclaimed, people_keeping, unflagged}
-use borrow.Author.Rules.{rules}
+use Rattle.records.proofs.RoomLaws.{Counted, room_left, room_same, counted_room, within_after, limited_past}
+use Rattle.records.proofs.CleanLaws.{people_keeping}
 use Rattle.records.proofs.unpacking.unpack_people.Goals as goal
-use Rattle.records.proofs.unpacking.unpack_people.Goals.{After-out-2-1, After-put_little, Else-not-g, Else-not-n, Else-not-u}
+use Rattle.records.proofs.unpacking.unpack_people.Goals.{In_ok-n, In_ok-g}
 
--- what was known earlier, as a place of its own
-abbrev up_1 : After-put_little → Else-not-u
-up_1 c = record { before = c.before.before.before.before.before.before; type_inv = record { out = c.slice_known-2-1.given; s = c.shared_slice_known-1.given } }
-
-abbrev up_2 : Else-not-g → After-put_little
-up_2 c = record { before = c.before.before.before.before.before.before.before.before.before.before; type_inv = record { s = c.shared_slice_known-1.given } }
-
-abbrev up_3 : Else-not-g → After-out-2-1
-up_3 c = record { before = c.before.before.before.before.before.before.before.before.before; type_inv = record { s = c.shared_slice_known-1.given } }
-
-abbrev up_4 : Else-not-g → Else-not-n
-up_4 c = record { before = c.before.before.before.before.before.before.before.before.before.before.before.before; type_inv = record { out = c.slice_known-2-1.given; s = c.shared_slice_known-1.given } }
-
+-- what follows the group count
 abbrev people : ℕ → List ℕ → ℕ → ℕ → Read (List ℕ)
 people flags s n at = then (copied (member_copied true) n s at) (rest_copied (confined flags) s)
 
--- ---- the places after the user, the count and the groups
--- ---- the user and the count
--- what the rest comes to after the user
-user : (c : Else-not-u) →
-    let a = c.args in
-    outcome (people_copied a.flags a.s.now a.at) a.out.now 12
-    ≡ outcome (groups_copied a.flags a.s.now c.unpack_identity-u.result.next) c.unpack_identity-u.new.out c.unpack_identity-u.result.to
-unfolding people_copied
-user c =
-    after_done _ _ _ c.unpack_identity-u.result _ c.unpack_identity-u.ensures.out_after (groups_copied c.args.flags _) c.if-not-u.false
+module _ (flags : ℕ) (s : List ℕ) (at : ℕ) (out : List ℕ) (u : Step) (l : List ℕ)
+    (is : left (Some u) l ≡ outcome (packed_identity s at) out 12) where
+  -- what the rest comes to after the user
+  user : outcome (people_copied flags s at) out 12 ≡ outcome (groups_copied flags s u.next) l u.to
+  unfolding people_copied
+  user = after_done (packed_identity s at) out 12 l u is (groups_copied flags s)
+
+  module _ (n : Num) (count : Some n ≡ num_of (limited 256 s u.next)) (m : List ℕ) (e : m ≡ sets l u.to (little 4 n.value)) where
+    -- after the count
+    counted : outcome (people_copied flags s at) out 12 ≡ outcome (people flags s n.value n.next) m (u.to + 4)
+    counted = rw e (user ∙ counted_done 256 s u.next (people flags s) l u.to n count)
+
+    -- and after the groups
+    grouped : (g : Step) (k : List ℕ) → left (Some g) k ≡ outcome (copied (member_copied true) n.value s n.next) m (u.to + 4) →
+        outcome (people_copied flags s at) out 12 ≡ outcome (rest_copied (confined flags) s g.next) k g.to
+    grouped g k x =
+        counted ∙ after_done (copied (member_copied true) n.value s n.next) m (u.to + 4) k g x (rest_copied (confined flags) s)
 
 -- the count after the user
-count : (c : Else-not-n) →
-    let a = c.args in
-    Counted (length a.out.now) 12 a.at c.unpack_identity-u.result
-    c.number_to-n.result
+count : (c : In_ok-n) → Counted (length c.args.out.now) 12 c.args.at c.in_ok-u.u c.in_ok-n.n
 count c =
-    let past = limited_past 256 _ _ c.number_to-n.result c.number_to-n.ensures.value c.if-not-n.false in
-    counted_room c.requires (omega arith) c.unpack_identity-u.ensures.within c.if-not-u.false past c.number_to-n.ensures.value_le_most.1
+    let past = limited_past 256 _ _ c.in_ok-n.n c.in_ok-n.ensures.value in
+    counted_room c.requires (omega arith) c.in_ok-u.ensures.within past c.in_ok-n.ensures.value_le_most.1
 
-few : (c : Else-not-n) →
-    c.unpack_identity-u.result.to + 4 + 72 * c.number_to-n.result.value ≤ 18516
-few c = omega (arith, (count c).few, c.number_to-n.ensures.value_le_most.0)
+-- what the rest comes to after the groups
+after_groups : (c : In_ok-g) →
+    outcome (people_copied c.args.flags c.args.s.now c.args.at) c.args.out.now 12
+    ≡ outcome (rest_copied (confined c.args.flags) c.args.s.now c.in_ok-g.g.next) c.unpack_members.new.out c.in_ok-g.g.to
+after_groups c =
+    grouped c.args.flags c.args.s.now c.args.at c.args.out.now c.in_ok-u.u c.unpack_identity.new.out c.in_ok-u.ensures.out_after c.in_ok-n.n
+    c.in_ok-n.ensures.value c.put_little.new.out c.put_little.ensures c.in_ok-g.g c.unpack_members.new.out c.in_ok-g.ensures.out_after
 
--- ---- the groups
--- the count leaves the buffer as long as it was
-long : (c : After-out-2-1) → length c.put_little.new.out ≡ length c.args.out.now
-long c = search rules
+within_groups : (c : In_ok-g) → Counted (length c.args.out.now) 12 c.args.at c.in_ok-u.u c.in_ok-n.n → Within (Some c.in_ok-g.g) 12 c.args.at 18504
+within_groups c k =
+    let few = c.in_ok-n.ensures.value_le_most.0 in
+    within_after k.fourfold (omega (arith, k.few, few)) c.in_ok-g.ensures.within
 
--- what the rest comes to after the count
-counted : (c : After-put_little) →
-    let a = c.args in
-    let n = c.number_to-n.result in
-    outcome (people_copied a.flags a.s.now a.at) a.out.now 12
-    ≡ outcome (people a.flags a.s.now n.value n.next) c.put_little.new.out
-    (c.unpack_identity-u.result.to + 4)
-counted c =
-    user (up_1 c)
-    ∙ counted_done 256 _ _ (people c.args.flags _) _ _ c.number_to-n.result c.number_to-n.ensures.value c.if-not-n.false
-    ∙ rw (sym c.put_little.ensures)
-
--- ---- after the groups
--- what the rest comes to
-grouped : (c : Else-not-g) →
-    let a = c.args in
-    outcome (people_copied a.flags a.s.now a.at) a.out.now 12
-    ≡ outcome (rest_copied (confined a.flags) a.s.now c.unpack_members-g.result.next) c.unpack_members-g.new.out c.unpack_members-g.result.to
-grouped c =
-    let a = c.args in
-    counted (up_2 c) ∙ after_done _ _ _ c.unpack_members-g.result _ c.unpack_members-g.ensures.out_after (rest_copied (confined a.flags) a.s.now) c.if-not-g.false
-
--- as long as it was, and still with room
-grouped_long : (c : Else-not-g) →
-    length c.unpack_members-g.new.out ≡ length c.args.out.now
-grouped_long c = omega (arith, long (up_3 c))
-
-grouped_within : (c : Else-not-g) → Within c.unpack_members-g.result 12 c.args.at 18504
-grouped_within c =
-    within_after (count (up_4 c)).fourfold (omega (arith, few (up_4 c))) c.unpack_members-g.ensures.within
-
--- user and groups, where both are clean
-kept : (c : Else-not-g) →
-    let a = c.args in
-    a.flags ≡ 0 → c.unpack_identity-u.result.clean ≡ true → c.unpack_members-g.result.clean ≡ true → (p : ℕ) →
-    Such Keeping (people_at packed_reader a.flags p a.s.now a.at)
-kept c none user groups p =
-    let e = step_done _ _ _ c.unpack_identity-u.result _ c.unpack_identity-u.ensures.out_after c.if-not-u.false in
-    people_keeping c.args.flags p _ _ _ _ _ _ _ c.number_to-n.result none e (c.unpack_identity-u.ensures.such user) c.number_to-n.ensures.value
-    c.if-not-n.false (c.unpack_members-g.ensures.such refl groups)
-
-pub unpack_identity-u-requires : goal.unpack_identity-u-requires
-unpack_identity-u-requires c = room_left c.requires (omega arith) (omega arith)
-
-pub returns-then-not-u : goal.returns-then-not-u
+pub returns-in_err-u-clause-out_after : goal.returns-in_err-u-clause-out_after
 unfolding people_copied
-returns-then-not-u c =
-    let r = after_refused _ _ _ c.unpack_identity-u.result _ c.unpack_identity-u.ensures.out_after (groups_copied c.args.flags _) c.if-not-u.true in
-    record { out_after = sym r; within = refused_within; such = λ x e. unclaimed e }
+returns-in_err-u-clause-out_after c =
+    rw c.from_residual.ensures (sym (after_refused _ _ _ (groups_copied c.args.flags _) c.in_err-u.ensures.out_after))
 
-pub returns-then-not-n : goal.returns-then-not-n
-returns-then-not-n c = record { out_after = sym (user (goal.at.returns-then-not-n c).Else-not-u ∙ counted_refused 256 _ _ (people c.args.flags _) _ _ c.number_to-n.result c.number_to-n.ensures.value c.if-not-n.true); within = refused_within; such = λ z e. unclaimed e }
+pub returns-in_err-n-clause-out_after : goal.returns-in_err-n-clause-out_after
+returns-in_err-n-clause-out_after c =
+    rw c.from_residual-in_err-n.ensures (sym (user c.args.flags c.args.s.now c.args.at c.args.out.now c.in_ok-u.u _ c.in_ok-u.ensures.out_after
+    ∙ counted_refused 256 _ _ (people c.args.flags _) _ _ c.in_err-n.ensures.value))
 
 pub put_little-requires : goal.put_little-requires
-put_little-requires c = omega (arith, (count (goal.at.put_little-requires c).Else-not-n).inside)
+put_little-requires c = omega (arith, (count (goal.at.put_little-requires c).In_ok-n).inside)
 
-pub overflow_add-u : goal.overflow_add-u
-overflow_add-u c = omega (arith, (count (goal.at.overflow_add-u c).Else-not-n).inside)
+pub unpack_members-requires : goal.unpack_members-requires
+unpack_members-requires c =
+    let k = count (goal.at.unpack_members-requires c).In_ok-n in
+    let few = c.in_ok-n.ensures.value_le_most.0 in
+    let long : length c.put_little.new.out ≡ length c.args.out.now = omega arith in
+    room_same long (room_left c.requires k.fourfold (omega (arith, k.few, few)))
 
-pub unpack_members-g-requires : goal.unpack_members-g-requires
-unpack_members-g-requires c = room_same (long (goal.at.unpack_members-g-requires c).After-out-2-1) (room_left c.requires (count (goal.at.unpack_members-g-requires c).Else-not-n).fourfold (omega (arith, few (goal.at.unpack_members-g-requires c).Else-not-n)))
+pub returns-in_err-g-clause-out_after : goal.returns-in_err-g-clause-out_after
+returns-in_err-g-clause-out_after c =
+    let d = counted c.args.flags c.args.s.now c.args.at c.args.out.now c.in_ok-u.u c.unpack_identity.new.out c.in_ok-u.ensures.out_after
+    c.in_ok-n.n c.in_ok-n.ensures.value c.put_little.new.out c.put_little.ensures in
+    rw c.from_residual-in_err-g.ensures (sym (d
+    ∙ after_refused _ _ _ (rest_copied (confined c.args.flags) c.args.s.now) c.in_err-g.ensures.out_after))
 
-pub returns-then-not-g : goal.returns-then-not-g
-returns-then-not-g c =
-    let a = c.args in
-    record { out_after = sym (counted (goal.at.returns-then-not-g c).After-put_little ∙ after_refused _ _ _ c.unpack_members-g.result _ c.unpack_members-g.ensures.out_after (rest_copied (confined a.flags) a.s.now) c.if-not-g.true); within = refused_within; such = λ z e. unclaimed e }
+pub returns-then-flags-eq0-clause-out_after : goal.returns-then-flags-eq0-clause-out_after
+returns-then-flags-eq0-clause-out_after c =
+    sym (after_groups (goal.at.returns-then-flags-eq0-clause-out_after c).In_ok-g ∙ rest_none c.args.flags _ _ _ _ c.if-flags-eq0.true)
 
-pub returns-then-flags-eq0 : goal.returns-then-flags-eq0
-returns-then-flags-eq0 c =
-    let u = c.unpack_identity-u.result in
-    let w = grouped_within (goal.at.returns-then-flags-eq0 c).Else-not-g in
-    let ok = not-false c.unpack_members-g.result.ok c.if-not-g.false in
-    record {
-      out_after = sym (grouped (goal.at.returns-then-flags-eq0 c).Else-not-g ∙ rest_none c.args.flags _ _ _ _ c.if-flags-eq0.true);
-      within = record { few = λ x. omega (arith, w.few ok); fourfold = λ x. w.fourfold ok };
-      such = λ z e.
-          let f = sym c.both.ensures ∙ e in
-          kept (goal.at.returns-then-flags-eq0 c).Else-not-g z (both u.clean c.unpack_members-g.result.clean f).0 (both u.clean c.unpack_members-g.result.clean f).1;
-    }
+pub returns-then-flags-eq0-clause-within : goal.returns-then-flags-eq0-clause-within
+returns-then-flags-eq0-clause-within c =
+    let z = goal.at.returns-then-flags-eq0-clause-within c in
+    let w = within_groups z.In_ok-g (count z.In_ok-n) in
+    let few = w.few in
+    record { few = omega (arith, few); fourfold = w.fourfold }
+
+pub returns-then-flags-eq0-clause-such : goal.returns-then-flags-eq0-clause-such
+returns-then-flags-eq0-clause-such c = λ none e p.
+    let b = both c.in_ok-u.u.clean c.in_ok-g.g.clean e in
+    let d = step_done _ _ _ _ c.in_ok-u.u c.in_ok-u.ensures.out_after in
+    people_keeping c.args.flags p _ _ _ _ _ _ _ c.in_ok-n.n none d (c.in_ok-u.ensures.such b.0) c.in_ok-n.ensures.value
+    (c.in_ok-g.ensures.such refl b.1)
 
 pub unpack_confinement-requires : goal.unpack_confinement-requires
 unpack_confinement-requires c =
-    let w = grouped_within (goal.at.unpack_confinement-requires c).Else-not-g in
-    let ok = not-false c.unpack_members-g.result.ok c.if-not-g.false in
-    room_same (grouped_long (goal.at.unpack_confinement-requires c).Else-not-g) (room_left c.requires (w.fourfold ok) (omega (arith, w.few ok)))
+    let z = goal.at.unpack_confinement-requires c in
+    let w = within_groups z.In_ok-g (count z.In_ok-n) in
+    let few = w.few in
+    let long : length c.unpack_members.new.out ≡ length c.args.out.now = omega arith in
+    room_same long (room_left c.requires w.fourfold (omega (arith, few)))
 
-pub shape_of-out : goal.shape_of-out
-shape_of-out c = omega (arith, grouped_long (goal.at.shape_of-out c).Else-not-g)
+pub returns-clause-out_after : goal.returns-clause-out_after
+returns-clause-out_after c =
+    c.unpack_confinement.ensures.out_after
+    ∙ sym (after_groups (goal.at.returns-clause-out_after c).In_ok-g ∙ rest_some c.args.flags _ _ _ _ c.if-flags-eq0.false)
 
-pub returns : goal.returns
-returns c =
-    let a = c.args in
-    let g = grouped_within (goal.at.returns c).Else-not-g in
-    let ok = not-false c.unpack_members-g.result.ok c.if-not-g.false in
-    record { out_after = c.unpack_confinement.ensures.out_after ∙ sym (grouped (goal.at.returns c).Else-not-g ∙ rest_some a.flags _ _ _ _ c.if-flags-eq0.false); within = within_after (g.fourfold ok) (omega (arith, g.few ok)) c.unpack_confinement.ensures.within; such = λ z e. absurd (c.if-flags-eq0.false (unflagged a.flags z)) }
+pub returns-clause-within : goal.returns-clause-within
+returns-clause-within c =
+    let z = goal.at.returns-clause-within c in
+    let g = within_groups z.In_ok-g (count z.In_ok-n) in
+    let few = g.few in
+    within_after g.fourfold (omega (arith, few)) c.unpack_confinement.ensures.within

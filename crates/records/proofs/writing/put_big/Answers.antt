@@ -1,27 +1,15 @@
--- `put_big` writes the six bytes of a number, highest first: the stores are those of the definition, place by place.
+-- `put_big` writes the last six of a number's eight bytes, highest first.
 -- Assumes nothing.
-use native.Mathlib.Numerals.{add-one}
+use Prim.Native.Nat.{ℕ}
+use mathlib.Core.List.{List}
+use mathlib.Core.Path.{ap, ◌∙◌}
 use native.Mathlib.Omega.{arith}
-use lib.ListN.{length-set}
-use Rattle.base.specs.Bytes.{big}
-use Rattle.base.proofs.WriteLaws.{add_two, add_three, add_four, add_five}
+use lib.ListN.{take, drop}
+use Rattle.base.proofs.ValueLaws.{length_big}
+use Rattle.records.proofs.HeadLaws.{put_part, big_last}
 use Rattle.records.proofs.writing.put_big.Goals as goal
 
-pub bounds-out-o-2 : goal.bounds-out-o-2
-bounds-out-o-2 c = simp length-set (omega arith)
-
-pub bounds-out-o-3 : goal.bounds-out-o-3
-bounds-out-o-3 c = simp length-set (omega arith)
-
-pub bounds-out-o-4 : goal.bounds-out-o-4
-bounds-out-o-4 c = simp length-set (omega arith)
-
-pub bounds-out-o-5 : goal.bounds-out-o-5
-bounds-out-o-5 c = simp length-set (omega arith)
-
-pub bounds-out-o-6 : goal.bounds-out-o-6
-bounds-out-o-6 c = simp length-set (omega arith)
-
 pub returns : goal.returns
-unfolding big
-returns c = simp (add-one, add_two, add_three, add_four, add_five)
+returns c =
+    put_part c.args.out.now c.args.o _ _ _ (c.copy_from_slice.ensures.after ∙ ap (λ (l : List ℕ). take 6 (drop 2 l)) c.to_be_bytes.ensures ∙ big_last c.args.v)
+    (omega (arith, length_big 6 c.args.v)) (omega arith)

@@ -1,5 +1,5 @@
 -- `mixed` meets its contract: the last pair, the two first ones after the authority where they stand, and the others in a loop. The
--- invariant: the pairs from here on, mixed into this number, give the whole. The measure is what is left up to the last pair.
+-- invariant: the pairs from here on, mixed into this number, give the whole.
 -- Assumes nothing.
 use Prim.Native.Nat.{ℕ, ◌+◌, ◌-◌, ◌<◌}
 use mathlib.Core.List.{List}
@@ -41,26 +41,26 @@ loop-i-init c =
     let k : length w - 8 + 8 ≡ length w = omega (arith, c.if-w-lt8.false) in
     let more : 16 < length w - 8 = omega (arith, c.if-k-le16.false) in (
       k,
-      (
-        omega arith,
-        two w k c.u64_at-end.result c.u64_at.result
-            c.u64_at-end.ensures c.u64_at.ensures (omega arith)
-            ∙ mixed_more w (length w - 8) k 16 _ more
-            ∙ rw c.u64_at-2.ensures,
-      ),
+      two w k c.u64_at-end.result c.u64_at.result c.u64_at-end.ensures c.u64_at.ensures (omega arith)
+          ∙ mixed_more w (length w - 8) k 16 _ more
+          ∙ rw c.u64_at-2.ensures,
     )
 
 pub loop-i-preserved : goal.loop-i-preserved
 loop-i-preserved c =
-    let w = c.args.w.now in (
-      c.loop-i.invariant.0,
-      (
-        omega (arith, c.loop-i-test.true),
-        c.loop-i.invariant.1.1 ∙ mixed_more w (length w - 8) c.loop-i.invariant.0 c.loop-i.i c.loop-i.x c.loop-i-test.true ∙ rw c.u64_at-x.ensures,
-      ),
-    )
-
-pub returns : goal.returns
-returns c =
     let w = c.args.w.now in
-    sym (c.loop-i.invariant.1.1 ∙ mixed_end w (length w - 8) c.loop-i.invariant.0 c.loop-i.i c.loop-i.x (omega arith))
+    let i = c.loop-i.invariant in
+    (i.0, i.1 ∙ mixed_more w (length w - 8) i.0 c.loop-i.i c.loop-i.x c.loop-i-test.true ∙ rw c.u64_at-x.ensures)
+
+pub returns-else-k-le16 : goal.returns-else-k-le16
+returns-else-k-le16 c =
+    let w = c.args.w.now in
+    let i = c.loop-i.invariant in
+    sym (i.1 ∙ mixed_end w (length w - 8) i.0 c.loop-i.i c.loop-i.x (omega arith))
+
+pub returns-else-k-le16-2 : goal.returns-else-k-le16-2
+returns-else-k-le16-2 c =
+    let w = c.args.w.now in
+    let i = c.loop-i.invariant in
+    sym (i.1 ∙ mixed_more w (length w - 8) i.0 c.loop-i.i c.loop-i.x c.loop-i-test.true
+    ∙ rw c.u64_at-x.ensures (mixed_end w (length w - 8) i.0 (c.loop-i.i + 8) _ (omega arith)))

@@ -1,34 +1,24 @@
--- `first_seat` meets its contract, and the seat lies inside the listing, also where no SID stands.
+-- `first_seat` meets its contract, and the seat lies inside the listing.
 -- Assumes nothing.
-use mathlib.Core.Path.{◌≡◌, sym, ap, ◌∙◌}
+use mathlib.Core.Path.{sym, ◌∙◌}
 use native.Mathlib.Omega.{arith}
+use borrow.Author.Tests.{ne_eqb}
+use Rattle.base.proofs.FoundLaws.{place_found, none_found}
 use Rattle.sids.proofs.SidLaws.{sid_end_bounds}
-use Rattle.sids.specs.Sid.{sid_end}
-use Rattle.seats.specs.declared.seats.Seat.{Seat}
 use Rattle.seats.proofs.SeatsLaws.{first_seat_none, first_seat_some}
 use Rattle.seats.proofs.seats.first_seat.Goals as goal
 
-pub returns-then-e-eq0 : goal.returns-then-e-eq0
-returns-then-e-eq0 c =
-    let a = c.args in
-    let z = first_seat_none a.s.now a.at (sym c.sid_end-e.ensures.value ∙ c.if-e-eq0.true) in
-    let n = c.no_seat.ensures in
-    record {
-      value = n ∙ sym z;
-      seat_lies = (
-        omega (arith, ap (λ (x : Seat). x.from) n, ap (λ (x : Seat). x.to) n),
-        (omega (arith, ap (λ (x : Seat). x.to) n), omega (arith, ap (λ (x : Seat). x.next) n)),
-      );
-    }
+pub returns-in_err-to-clause-value : goal.returns-in_err-to-clause-value
+returns-in_err-to-clause-value c =
+    rw (c.from_residual.ensures, first_seat_none c.args.s.now c.args.at (none_found _ c.in_err-to.ensures.value))
 
-pub returns : goal.returns
-returns c =
-    let a = c.args in
-    let e = c.sid_end-e.ensures.value in
-    let some : sid_end a.s.now a.at ≡ 0 → ⊥ = λ z. c.if-e-eq0.false (e ∙ z) in
-    let b = sid_end_bounds a.s.now a.at some in
-    record {
-      value = sym (first_seat_some a.s.now a.at c.sid_end-e.result e c.if-e-eq0.false c.onward-next.result
-          c.onward-next.ensures.value);
-      seat_lies = (omega (arith, b.0), (omega arith, omega arith));
-    }
+pub returns-clause-value : goal.returns-clause-value
+returns-clause-value c =
+    let p = place_found _ c.in_ok-to.to c.in_ok-to.ensures.value in
+    rw (first_seat_some c.args.s.now c.args.at c.in_ok-to.to (sym p.is) p.there _ c.onward-next.ensures.value, ne_eqb c.in_ok-to.to 0 p.there)
+
+pub returns-clause-seat_lies : goal.returns-clause-seat_lies
+returns-clause-seat_lies c =
+    let p = place_found _ c.in_ok-to.to c.in_ok-to.ensures.value in
+    let b = sid_end_bounds c.args.s.now c.args.at (λ z. p.there (sym p.is ∙ z)) in
+    (omega (arith, b.0, p.is), (c.in_ok-to.ensures.upper_bound, c.onward-next.ensures.upper_bound))

@@ -1,66 +1,133 @@
--- `bytes_of` meets its contract. The invariant: what is left of the text, put into the buffer from here, is the whole, put from the start.
--- The measure is the room that is left. Assumes nothing.
-use Prim.Native.Nat.{ℕ, ◌+◌, ◌-◌, ◌≤◌}
-use mathlib.Core.Path.{◌≡◌, refl, sym, ap, ◌∙◌}
-use native.Mathlib.Omega.{arith}
-use lib.ListN.{length, length-set, set}
-use Rattle.testkit.specs.Text.{Filling}
-use Rattle.testkit.proofs.TextLaws.{fill_start, fill_full, fill_end, fill_done, fill_short, fill_bad, fill_more}
+-- `bytes_of` meets its contract: each way out of a turn is a line of `filled`.
+-- Assumes nothing.
+use Rattle.std.proofs.Common.{◌≡◌, ℕ, ◌+◌, ◌-◌, ◌*◌, ◌≤◌, List, length, drop, set, get_or, sym, ap, ◌∙◌, arith, length-set}
+use Rattle.std.proofs.lemmas.List.{set-get_or, drop-drop}
+use Rattle.testkit.specs.Text.{Filling, counted, filled}
+use Rattle.testkit.proofs.TextLaws.{whole_rest, front, under_none, under_some, fill_start, fill_full, fill_end, fill_done, fill_short, fill_bad, fill_more}
 use Rattle.testkit.proofs.text.bytes_of.Goals as goal
 
--- a filling tells the answer and the buffer
-told :
-    {f g : Filling} {n : ℕ} → f ≡ g → n ≤ length g.bytes → (g.answer ≡ f.answer) × ((g.bytes ≡ f.bytes) × (n ≤ length g.bytes))
-told e h = (sym (ap (λ (f : Filling). f.answer) e), (sym (ap (λ (f : Filling). f.bytes) e), h))
+-- what a filling answers, and the bytes that it leaves where the one at a place is written back
+answer_of : {f g : Filling} → f ≡ g → counted g.answer ≡ counted f.answer
+answer_of e = sym (ap (λ (f : Filling). counted f.answer) e)
 
-pub loop-n-init : goal.loop-n-init
-loop-n-init c = let a = c.args in (omega arith, omega arith, refl, fill_start a.text.now a.out.now a.stop)
+bytes_in : {f g : Filling} (n : ℕ) → f ≡ g → set g.bytes n (get_or g.bytes n 0) ≡ f.bytes
+bytes_in {f} {g} n e = set-get_or g.bytes n 0 ∙ sym (ap (λ (f : Filling). f.bytes) e)
 
-pub returns-then-text-i : goal.returns-then-text-i
-returns-then-text-i c =
-    let a = c.args in
-    let room = length c.loop-n.out - c.loop-n.n in let whole = told (c.loop-n.invariant.3 ∙ fill_end a.text.now c.loop-n.out a.stop room (room - 1) c.loop-n.n c.loop-n.i (omega arith) (omega arith)) (omega arith) in record { value = whole.0; out_after = whole.1.0; length_in_bounds = whole.1.1 }
+pub returns-in-len1-up-clause-value : goal.returns-in-len1-up-clause-value
+returns-in-len1-up-clause-value c =
+    let l = c.loop-n in
+    let t = c.args.text.now in
+    let room = length l.out - l.n in
+    let f = front t l.rest.now (2 * l.n) l.invariant.left in
+    answer_of (l.invariant.whole ∙ fill_done t l.out c.args.stop room (room - 1) l.n (2 * l.n) (omega arith) (omega arith) (f.0 ∙ c.if-end-stop.true))
 
-pub returns-then-text-i-2 : goal.returns-then-text-i-2
-returns-then-text-i-2 c =
-    let a = c.args in
-    let room = length c.loop-n.out - c.loop-n.n in let whole = told (c.loop-n.invariant.3 ∙ fill_done a.text.now c.loop-n.out a.stop room (room - 1) c.loop-n.n c.loop-n.i (omega arith) (omega arith)
-    c.if-text-i-2.true) (omega arith) in record { value = whole.0; out_after = whole.1.0; length_in_bounds = whole.1.1 }
+pub returns-in-len1-up-clause-out_after : goal.returns-in-len1-up-clause-out_after
+returns-in-len1-up-clause-out_after c =
+    let l = c.loop-n in
+    let t = c.args.text.now in
+    let room = length l.out - l.n in
+    let f = front t l.rest.now (2 * l.n) l.invariant.left in
+    bytes_in l.n (l.invariant.whole ∙ fill_done t l.out c.args.stop room (room - 1) l.n (2 * l.n) (omega arith) (omega arith) (f.0 ∙ c.if-end-stop.true))
 
-pub returns-then-text-i-lt2 : goal.returns-then-text-i-lt2
-returns-then-text-i-lt2 c =
-    let a = c.args in
-    let room = length c.loop-n.out - c.loop-n.n in let whole = told (c.loop-n.invariant.3 ∙ fill_short a.text.now c.loop-n.out a.stop room (room - 1) c.loop-n.n c.loop-n.i (omega arith) (omega arith)
-    c.if-text-i-2.false (omega arith)) (omega arith) in record { value = whole.0; out_after = whole.1.0; length_in_bounds = whole.1.1 }
+pub returns-in_default-clause-value : goal.returns-in_default-clause-value
+returns-in_default-clause-value c =
+    let l = c.loop-n in
+    let t = c.args.text.now in
+    let room = length l.out - l.n in
+    let f = front t l.rest.now (2 * l.n) l.invariant.left in
+    answer_of (l.invariant.whole ∙ fill_end t l.out c.args.stop room (room - 1) l.n (2 * l.n) (omega arith) (omega arith))
 
-pub returns-then-b-gt255 : goal.returns-then-b-gt255
-returns-then-b-gt255 c =
-    let a = c.args in
-    let room = length c.loop-n.out - c.loop-n.n in let whole = told (c.loop-n.invariant.3 ∙ fill_bad a.text.now c.loop-n.out a.stop room (room - 1) c.loop-n.n c.loop-n.i (omega arith) (omega arith)
-    c.if-text-i-2.false
+pub returns-in_default-clause-out_after : goal.returns-in_default-clause-out_after
+returns-in_default-clause-out_after c =
+    let l = c.loop-n in
+    let t = c.args.text.now in
+    let room = length l.out - l.n in
+    let f = front t l.rest.now (2 * l.n) l.invariant.left in
+    bytes_in l.n (l.invariant.whole ∙ fill_end t l.out c.args.stop room (room - 1) l.n (2 * l.n) (omega arith) (omega arith))
+
+pub returns-in_default-2-clause-value : goal.returns-in_default-2-clause-value
+returns-in_default-2-clause-value c =
+    let l = c.loop-n in
+    let t = c.args.text.now in
+    let room = length l.out - l.n in
+    let f = front t l.rest.now (2 * l.n) l.invariant.left in
+    answer_of (
+    l.invariant.whole
+    ∙ fill_short t l.out c.args.stop room (room - 1) l.n (2 * l.n) (omega arith) (omega arith) (λ e. c.if-end-stop.false (sym f.0 ∙ e)) (omega arith)
+    )
+
+pub returns-in_default-2-clause-out_after : goal.returns-in_default-2-clause-out_after
+returns-in_default-2-clause-out_after c =
+    let l = c.loop-n in
+    let t = c.args.text.now in
+    let room = length l.out - l.n in
+    let f = front t l.rest.now (2 * l.n) l.invariant.left in
+    bytes_in l.n (
+    l.invariant.whole
+    ∙ fill_short t l.out c.args.stop room (room - 1) l.n (2 * l.n) (omega arith) (omega arith) (λ e. c.if-end-stop.false (sym f.0 ∙ e)) (omega arith)
+    )
+
+pub returns-in_err-b-in-len2-up-clause-value : goal.returns-in_err-b-in-len2-up-clause-value
+returns-in_err-b-in-len2-up-clause-value c =
+    let l = c.loop-n in
+    let t = c.args.text.now in
+    let room = length l.out - l.n in
+    let f = front t l.rest.now (2 * l.n) l.invariant.left in
+    let none = under_none 256 _ c.in_err-b-in-len2-up.ensures in
+    let e = answer_of (
+    l.invariant.whole
+    ∙ fill_bad t l.out c.args.stop room (room - 1) l.n (2 * l.n) (omega arith) (omega arith) (λ e. c.if-end-stop.false (sym f.0 ∙ e))
     (omega arith)
-    (omega (arith, c.byte_of-b.ensures)))
-    (omega arith) in record { value = whole.0; out_after = whole.1.0; length_in_bounds = whole.1.1 }
+    (rw (f.0, f.1) (omega (arith, none)))
+    ) in
+    cc
 
-pub loop-n-smaller : goal.loop-n-smaller
-loop-n-smaller c = simp length-set (omega arith)
+pub returns-in_err-b-in-len2-up-clause-out_after : goal.returns-in_err-b-in-len2-up-clause-out_after
+returns-in_err-b-in-len2-up-clause-out_after c =
+    let l = c.loop-n in
+    let t = c.args.text.now in
+    let room = length l.out - l.n in
+    let f = front t l.rest.now (2 * l.n) l.invariant.left in
+    let none = under_none 256 _ c.in_err-b-in-len2-up.ensures in
+    bytes_in l.n (
+    l.invariant.whole
+    ∙ fill_bad t l.out c.args.stop room (room - 1) l.n (2 * l.n) (omega arith) (omega arith) (λ e. c.if-end-stop.false (sym f.0 ∙ e))
+    (omega arith)
+    (rw (f.0, f.1) (omega (arith, none)))
+    )
 
 pub loop-n-preserved : goal.loop-n-preserved
 loop-n-preserved c =
-    let a = c.args in
-    let v = c.byte_of-b.result in
-    let room = length c.loop-n.out - c.loop-n.n in
-    let less = length (set c.loop-n.out c.loop-n.n v) - (c.loop-n.n + 1) in (
-      simp length-set (omega arith),
-      omega arith,
-      simp length-set c.loop-n.invariant.2,
-      c.loop-n.invariant.3
-          ∙ fill_more a.text.now c.loop-n.out a.stop room less c.loop-n.n c.loop-n.i v c.byte_of-b.ensures
+    let l = c.loop-n in
+    let t = c.args.text.now in
+    let n = l.n in
+    let v = c.in_ok-b-in-len2-up.field-0 in
+    let room = length l.out - n in
+    let f = front t l.rest.now (2 * n) l.invariant.left in
+    let some = under_some 256 _ v c.in_ok-b-in-len2-up.ensures in
+    let less = length (set l.out n v) - (n + 1) in
+    let two : 2 * n + 2 ≡ 2 * (n + 1) = omega arith in
+    record {
+      inside = omega arith;
+      left = whole_rest 2 l.rest.now ∙ (rw l.invariant.left (rw (← two) (drop-drop 2 (2 * n) t)));
+      whole =
+          rw (← two) (
+          l.invariant.whole
+          ∙ fill_more t l.out c.args.stop room less n (2 * n) v (rw (f.0, f.1) some.0)
           (simp length-set (omega arith))
-          (omega arith) c.if-text-i-2.false (omega arith) (omega arith),
-    )
+          (omega arith) (λ e. c.if-end-stop.false (sym f.0 ∙ e)) (omega arith) (omega (arith, some.0, some.1))
+          );
+    }
 
-pub returns : goal.returns
-returns c =
-    let a = c.args in
-    let room = length c.loop-n.out - c.loop-n.n in let whole = told (c.loop-n.invariant.3 ∙ fill_full a.text.now c.loop-n.out a.stop room (room - 1) c.loop-n.n c.loop-n.i (omega arith)) (omega arith) in record { value = whole.0; out_after = whole.1.0; length_in_bounds = whole.1.1 }
+pub returns-clause-value : goal.returns-clause-value
+returns-clause-value c =
+    let l = c.loop-n in
+    let room = length l.out - l.n in
+    answer_of (l.invariant.whole ∙ fill_full c.args.text.now l.out c.args.stop room (room - 1) l.n (2 * l.n) (omega arith))
+
+pub returns-clause-out_after : goal.returns-clause-out_after
+returns-clause-out_after c =
+    let l = c.loop-n in
+    let room = length l.out - l.n in
+    sym (ap (λ (f : Filling). f.bytes)
+    (l.invariant.whole ∙ fill_full c.args.text.now l.out c.args.stop room (room - 1) l.n (2 * l.n) (omega arith)))

@@ -1,46 +1,47 @@
--- `judge_groups`: what was met so far, or is met among the groups that are left, is what is met among all. The measure is how many are
--- left.
+-- `judge_groups`: what was met so far, or is met among the groups that are left, is what is met among all.
 -- Assumes nothing.
-use mathlib.Core.Path.{refl, sym, ◌∙◌}
+use Prim.Native.Nat.{◌+◌, ◌-◌}
+use mathlib.Core.Path.{◌≡◌, sym, ◌∙◌}
 use native.Mathlib.Omega.{arith}
-use Rattle.tokens.proofs.JudgeLaws.{identity_after, groups_none, groups_stop, groups_cut, groups_step}
+use Rattle.base.proofs.FoundLaws.{none_found}
+use Rattle.tokens.proofs.JudgeLaws.{Stands, stands, groups_none, groups_stop, groups_cut, groups_step}
 use Rattle.tokens.proofs.judging.judge_groups.Goals as goal
+use Rattle.tokens.proofs.judging.judge_groups.Goals.{In_ok-e}
 
-pub loop-more-init : goal.loop-more-init
-loop-more-init c = (c.requires, refl)
+identity : (c : In_ok-e) → Stands c.args.s.now c.loop.next c.in_ok-e.e
+identity c = stands _ _ _ c.in_ok-e.ensures.value
 
-pub returns-then-e-eq0 : goal.returns-then-e-eq0
-returns-then-e-eq0 c =
-    let i = c.loop-more.invariant in
-    record {
-      result_value = sym (i.1 ∙ groups_stop _ _ _ c.loop-more.breaks c.loop-more-test.true (sym c.sid_end-e.ensures.value
-          ∙ c.if-e-eq0.true));
-      next_in_bounds = omega arith;
-    }
+pub loop-init : goal.loop-init
+loop-init c = let z : c.args.n - 0 ≡ c.args.n = omega arith in (c.requires, rw z)
 
-pub returns-then-s-e-lt4 : goal.returns-then-s-e-lt4
-returns-then-s-e-lt4 c =
-    let i = c.loop-more.invariant in
-    record {
-      result_value = sym (i.1 ∙ groups_cut _ _ _ c.loop-more.breaks c.loop-more-test.true
-          c.sid_end-e.result c.sid_end-e.ensures.value c.if-e-eq0.false (omega arith));
-      next_in_bounds = omega arith;
-    }
+pub returns-in_err-e-clause-result_value : goal.returns-in_err-e-clause-result_value
+returns-in_err-e-clause-result_value c =
+    rw c.from_residual.ensures (sym (c.loop.invariant.1
+    ∙ groups_stop _ _ _ c.loop.breaks (omega arith) (none_found _ c.in_err-e.ensures.value)))
 
-pub is_virtual-requires : goal.is_virtual-requires
-is_virtual-requires c =
-    let a = identity_after _ _ c.sid_end-e.result c.sid_end-e.ensures.value c.if-e-eq0.false in
-    (omega (arith, a), omega arith)
+pub overflow_sub-s : goal.overflow_sub-s
+overflow_sub-s c = (identity (goal.at.overflow_sub-s c).In_ok-e).inside
 
-pub loop-more-preserved : goal.loop-more-preserved
-loop-more-preserved c =
-    let i = c.loop-more.invariant in
-    let d = groups_step c.args.s.now
-    c.loop-more.from c.loop-more.more
-    c.loop-more.breaks
-    c.loop-more-test.true c.sid_end-e.result c.sid_end-e.ensures.value
-    c.if-e-eq0.false (omega arith) in
-    (omega arith, i.1 ∙ d ∙ rw (c.either-breaks.ensures, c.is_virtual.ensures))
+pub returns-then-s-e-lt4-clause-result_value : goal.returns-then-s-e-lt4-clause-result_value
+returns-then-s-e-lt4-clause-result_value c =
+    let x = stands c.args.s.now c.loop.next c.in_ok-e.e c.in_ok-e.ensures.value in
+    sym (c.loop.invariant.1 ∙ groups_cut _ _ _ c.loop.breaks (omega arith) _ x.is x.found (omega (arith, x.inside)))
 
-pub returns : goal.returns
-returns c = record { result_value = sym (c.loop-more.invariant.1 ∙ groups_none _ _ _ c.loop-more.breaks (omega arith)); next_in_bounds = c.loop-more.invariant.0 }
+pub is_virtual-breaks-requires : goal.is_virtual-breaks-requires
+is_virtual-breaks-requires c =
+    let x = identity (goal.at.is_virtual-breaks-requires c).In_ok-e in
+    (omega (arith, x.past), x.inside)
+
+pub loop-preserved : goal.loop-preserved
+loop-preserved c =
+    let x = identity (goal.at.loop-preserved c).In_ok-e in
+    let less : c.args.n - (c.loop.counter + 1) ≡ c.args.n - c.loop.counter - 1 = omega arith in
+    let d = groups_step c.args.s.now c.loop.next (c.args.n - c.loop.counter) c.loop.breaks (omega arith) c.in_ok-e.e x.is x.found
+    (omega (arith, x.inside)) in
+    (omega (arith, x.inside), c.loop.invariant.1 ∙ d ∙ rw (less, c.is_virtual-breaks.ensures))
+
+pub returns-clause-result_value : goal.returns-clause-result_value
+returns-clause-result_value c = sym (c.loop.invariant.1 ∙ groups_none _ _ _ c.loop.breaks (omega arith))
+
+pub returns-clause-next_in_bounds : goal.returns-clause-next_in_bounds
+returns-clause-next_in_bounds c = c.loop.invariant.0

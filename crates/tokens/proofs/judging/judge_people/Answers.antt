@@ -1,122 +1,81 @@
 -- `judge_people`: each way out is a part that is not there; then the token is read, and breaks a rule or keeps all.
 -- Assumes nothing.
-use mathlib.Core.Path.{sym, ◌∙◌}
+use mathlib.Core.Path.{sym}
 use native.Mathlib.Omega.{arith}
 use Rattle.base.proofs.BytesLaws.{bytes_of_lt}
 use Rattle.tokens.specs.Judging.{judged_of}
-use Rattle.tokens.proofs.JudgeLaws.{identity_after, Headed}
+use Rattle.base.proofs.FoundLaws.{none_found}
+use Rattle.tokens.proofs.JudgeLaws.{stands, Headed}
 use Rattle.tokens.proofs.JudgePeople.{Grouped, Peopled, people_stop, people_cut, people_many, people_lost, people_restless}
 use Rattle.tokens.proofs.JudgePeople.{people_longer, people_broken, people_kept}
 use Rattle.tokens.proofs.judging.judge_people.Goals as goal
-use Rattle.tokens.proofs.judging.judge_people.Goals.{After-judge_groups-g, After-judge_rest-w, After-u32_at-n}
-
--- what was known earlier, as a place of its own
-abbrev up_1 : After-judge_groups-g → After-u32_at-n
-up_1 c = record { before = c.before.before.before; type_inv = record { s = c.shared_slice_known-1.given } }
-
-abbrev up_2 : After-judge_rest-w → After-judge_groups-g
-up_2 c = record { before = c.before.before.before.before; type_inv = record { s = c.shared_slice_known-1.given } }
+use Rattle.tokens.proofs.judging.judge_people.Goals.{After-u32_at-n, In-Some-judge_groups, In-Some-judge_rest}
 
 -- the user and the count
-head : (c : After-u32_at-n) → Headed c.args.s.now 12
-    c.sid_end-e.result c.u32_at-n.result
-head c = record {
-  is = c.sid_end-e.ensures.value;
-  found = c.if-e-eq0.false;
-  whole = omega arith;
-  count =
-      c.u32_at-n.ensures;
+head : (c : After-u32_at-n) → Headed c.args.s.now 12 c.in-Some.e c.u32_at-n.result
+head c =
+    let x = stands c.args.s.now 12 c.in-Some.e c.in-Some.ensures.value in
+    record { is = x.is; found = x.found; whole = omega (arith, x.inside); count = c.u32_at-n.ensures }
+
+pub returns-in_default-clause-by_index : goal.returns-in_default-clause-by_index
+unfolding judged_of
+returns-in_default-clause-by_index c = λ p. rw (people_stop c.args.flags p _ (none_found _ c.in_default.ensures.value))
+
+pub overflow_sub-s : goal.overflow_sub-s
+overflow_sub-s c = (stands c.args.s.now 12 c.in-Some.e c.in-Some.ensures.value).inside
+
+pub returns-then-s-e-lt4-clause-by_index : goal.returns-then-s-e-lt4-clause-by_index
+unfolding judged_of
+returns-then-s-e-lt4-clause-by_index c =
+    let x = stands c.args.s.now 12 c.in-Some.e c.in-Some.ensures.value in
+    λ p. rw (people_cut c.args.flags p _ _ x.is x.found (omega (arith, x.inside)))
+
+pub returns-then-n-gt256-clause-by_index : goal.returns-then-n-gt256-clause-by_index
+unfolding judged_of
+returns-then-n-gt256-clause-by_index c =
+    λ p. rw (people_many c.args.flags p (head (goal.at.returns-then-n-gt256-clause-by_index c).After-u32_at-n) c.if-n-gt256.true)
+
+pub returns-in_default-judge_groups-clause-by_index : goal.returns-in_default-judge_groups-clause-by_index
+unfolding judged_of
+returns-in_default-judge_groups-clause-by_index c =
+    λ p. rw (people_lost c.args.flags p (head (goal.at.returns-in_default-judge_groups-clause-by_index c).After-u32_at-n) c.if-n-gt256.false
+    c.in_default-judge_groups.ensures.result_value)
+
+pub returns-in_default-judge_rest-clause-by_index : goal.returns-in_default-judge_rest-clause-by_index
+unfolding judged_of
+returns-in_default-judge_rest-clause-by_index c =
+    let h = head (goal.at.returns-in_default-judge_rest-clause-by_index c).After-u32_at-n in
+    let g : Grouped c.args.s.now c.in-Some.e c.u32_at-n.result c.in-Some-judge_groups.g =
+    record { head = h; few = c.if-n-gt256.false; walk = c.in-Some-judge_groups.ensures.result_value } in
+    λ p. rw (people_restless c.args.flags p g c.in_default-judge_rest.ensures.result_value)
+
+-- the user, the groups and what follows them
+people : (c : In-Some-judge_rest) → Headed c.args.s.now 12 c.in-Some.e c.u32_at-n.result →
+    Peopled c.args.flags c.args.s.now c.in-Some.e c.u32_at-n.result c.in-Some-judge_groups.g c.in-Some-judge_rest.w
+people c h = record {
+  groups = record { head = h; few = c.if-n-gt256.false; walk = c.in-Some-judge_groups.ensures.result_value };
+  rest = c.in-Some-judge_rest.ensures.result_value;
 }
 
--- the groups
-groups : (c : After-judge_groups-g) → Grouped c.args.s.now
-    c.sid_end-e.result c.u32_at-n.result c.judge_groups-g.result
-groups c = record { head = head (up_1 c); few = c.if-n-gt256.false; walk = c.judge_groups-g.ensures.result_value }
-
--- and what follows them
-people : (c : After-judge_rest-w) →
-    Peopled c.args.flags
-    c.args.s.now
-    c.sid_end-e.result
-    c.u32_at-n.result
-    c.judge_groups-g.result c.judge_rest-w.result
-people c = record { groups = groups (up_2 c); grouped = c.if-not-g.false; rest = c.judge_rest-w.ensures.result_value }
-
-pub returns-then-e-eq0 : goal.returns-then-e-eq0
-unfolding judged_of
-returns-then-e-eq0 c =
-    record {
-      by_index = λ p. rw (people_stop c.args.flags p _ (sym c.sid_end-e.ensures.value
-          ∙ c.if-e-eq0.true));
-      confined_at_in_bounds = omega arith;
-    }
-
-pub returns-then-s-e-lt4 : goal.returns-then-s-e-lt4
-unfolding judged_of
-returns-then-s-e-lt4 c =
-    let f = c.args.flags in
-    record { by_index = λ p. rw (people_cut f p _ c.sid_end-e.result c.sid_end-e.ensures.value c.if-e-eq0.false (omega arith)); confined_at_in_bounds = omega arith }
-
-pub returns-then-n-gt256 : goal.returns-then-n-gt256
-unfolding judged_of
-returns-then-n-gt256 c =
-    record {
-      by_index = λ p. rw (people_many c.args.flags p (head (goal.at.returns-then-n-gt256 c).After-u32_at-n)
-          c.if-n-gt256.true);
-      confined_at_in_bounds = omega arith;
-    }
-
-pub returns-then-not-g : goal.returns-then-not-g
-unfolding judged_of
-returns-then-not-g c =
-    record {
-      by_index = λ p. rw (people_lost c.args.flags p
-          (groups (goal.at.returns-then-not-g c).After-judge_groups-g) c.if-not-g.true);
-      confined_at_in_bounds = omega arith;
-    }
-
-pub returns-then-not-w : goal.returns-then-not-w
-unfolding judged_of
-returns-then-not-w c =
-    record {
-      by_index = λ p. rw
-          (people_restless c.args.flags p
-          (people (goal.at.returns-then-not-w c).After-judge_rest-w) c.if-not-w.true);
-      confined_at_in_bounds = omega arith;
-    }
-
-pub returns-then-w-s : goal.returns-then-w-s
-returns-then-w-s c =
-    let f = c.args.flags in
-    record { by_index = λ p. sym (people_longer f p (people (goal.at.returns-then-w-s c).After-judge_rest-w) c.if-not-w.false c.if-w-s.true); confined_at_in_bounds = omega arith }
+pub returns-then-w-s-clause-by_index : goal.returns-then-w-s-clause-by_index
+returns-then-w-s-clause-by_index c =
+    let z = goal.at.returns-then-w-s-clause-by_index c in
+    λ p. sym (people_longer c.args.flags p (people z.In-Some-judge_rest (head z.After-u32_at-n)) c.if-w-s.true)
 
 pub is_virtual-requires : goal.is_virtual-requires
 is_virtual-requires c =
-    let a = identity_after _ _ c.sid_end-e.result c.sid_end-e.ensures.value
-    c.if-e-eq0.false in
-    (omega (arith, a), omega arith)
+    let x = stands c.args.s.now 12 c.in-Some.e c.in-Some.ensures.value in
+    (omega (arith, x.past), x.inside)
 
-pub returns-then-either : goal.returns-then-either
-returns-then-either c =
-    let f = c.args.flags in
-    let u = rw (c.either-u.ensures, c.is_virtual.ensures) at (sym c.either.ensures
-    ∙ c.if-either.true) in
-    record {
-      by_index = λ p. sym (people_broken f p (people (goal.at.returns-then-either c).After-judge_rest-w)
-          c.if-not-w.false c.if-w-s.false u);
-      confined_at_in_bounds = omega arith;
-    }
+pub returns-then-is_virtual-g-clause-by_index : goal.returns-then-is_virtual-g-clause-by_index
+returns-then-is_virtual-g-clause-by_index c =
+    let z = goal.at.returns-then-is_virtual-g-clause-by_index c in
+    let u = rw c.is_virtual.ensures at c.if-is_virtual-g.true in
+    λ p. sym (people_broken c.args.flags p (people z.In-Some-judge_rest (head z.After-u32_at-n)) c.if-w-s.false u)
 
-pub returns : goal.returns
-returns c =
-    let f = c.args.flags in
-    let s = c.args.s.now in
-    let b = bytes_of_lt s
-    (λ i l. (c.type_inv.s i).fits) in
-    let u = rw (c.either-u.ensures, c.is_virtual.ensures) at (sym c.either.ensures
-    ∙ c.if-either.false) in
-    record {
-      by_index = λ p. sym (people_kept f p (people (goal.at.returns c).After-judge_rest-w)
-          c.if-not-w.false c.if-w-s.false b u);
-      confined_at_in_bounds = c.judge_groups-g.ensures.next_in_bounds;
-    }
+pub returns-clause-by_index : goal.returns-clause-by_index
+returns-clause-by_index c =
+    let z = goal.at.returns-clause-by_index c in
+    let b = bytes_of_lt c.args.s.now (λ i l. (c.type_inv.s i).fits) in
+    let u = rw c.is_virtual.ensures at c.if-is_virtual-g.false in
+    λ p. sym (people_kept c.args.flags p (people z.In-Some-judge_rest (head z.After-u32_at-n)) c.if-w-s.false b u)

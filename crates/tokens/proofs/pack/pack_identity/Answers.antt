@@ -13,27 +13,27 @@ pub bounds-w-1 : goal.bounds-w-1
 bounds-w-1 c = omega (arith, is_sid_long c.args.w.now c.requires.0)
 
 pub put-a-requires : goal.put-a-requires
-put-a-requires c = room_first _ _ (packed c.wide-n.result) _ (rw (identity_is c.args.w.now c.wide-n.result _ c.wide-n.ensures.0 refl) at c.requires.1)
+put-a-requires c = room_first _ _ (packed c.from-n.result) _ (rw (identity_is c.args.w.now c.from-n.result _ c.from-n.ensures refl) at c.requires.1)
 
 pub authority-requires : goal.authority-requires
 authority-requires c = is_sid_long c.args.w.now c.requires.0
 
 pub put-b-requires : goal.put-b-requires
 put-b-requires c =
-    let ws = packed_words c.wide-n.result c.args.w.now 8 in
-    let room = rw (identity_is c.args.w.now c.wide-n.result c.authority.result c.wide-n.ensures.0 c.authority.ensures) at c.requires.1 in
+    let ws = packed_words c.from-n.result c.args.w.now 8 in
+    let room = rw (identity_is c.args.w.now c.from-n.result c.authority.result c.from-n.ensures c.authority.ensures) at c.requires.1 in
     room_first _ _ (packed c.authority.result) ws (room_after_lem (packed c.authority.result ++ ws) c.put-a.ensures room)
 
 pub pack_words-requires : goal.pack_words-requires
 pack_words-requires c =
-    let ws = packed_words c.wide-n.result c.args.w.now 8 in
-    let room = rw (identity_is c.args.w.now c.wide-n.result c.authority.result c.wide-n.ensures.0 c.authority.ensures) at c.requires.1 in
+    let ws = packed_words c.from-n.result c.args.w.now 8 in
+    let room = rw (identity_is c.args.w.now c.from-n.result c.authority.result c.from-n.ensures c.authority.ensures) at c.requires.1 in
     let long = (sid_shape c.args.w.now c.requires.0).long in (
-      omega (arith, long, c.wide-n.ensures.0),
+      omega (arith, long, c.from-n.ensures),
       room_after_lem ws c.put-b.ensures (room_after_lem (packed c.authority.result ++ ws) c.put-a.ensures room),
     )
 
 pub returns : goal.returns
 returns c =
-    wrote_same (sym (identity_is c.args.w.now c.wide-n.result c.authority.result c.wide-n.ensures.0 c.authority.ensures))
+    wrote_same (sym (identity_is c.args.w.now c.from-n.result c.authority.result c.from-n.ensures c.authority.ensures))
     (wrote_append c.put-a.ensures (wrote_append c.put-b.ensures c.pack_words.ensures))

@@ -1,72 +1,76 @@
 -- `to_record` meets its contract: what the judge refuses is refused; where the buffer is twice as long as the listing the record is packed
 -- there, and else in a room that is. Assumes nothing.
 use Prim.Native.Nat.{ℕ, ◌≤◌}
-use mathlib.Core.Path.{ap}
+use mathlib.Core.Path.{refl, ap}
 use native.Mathlib.Omega.{arith}
 use lib.ListN.{length}
+use Rattle.std.proofs.lemmas.Result.{err_from_is_err_and}
 use Rattle.base.proofs.BytesLaws.{bytes_of_lt}
-use Rattle.base.proofs.WriteLaws.{wrote_length, buffer_room}
+use Rattle.base.proofs.WriteLaws.{wrote_length}
 use Rattle.records.specs.Packing.{record_bytes}
+use Rattle.tokens.specs.Answers.{number_of}
+use Rattle.tokens.specs.Judging.{Judged}
+use Rattle.tokens.proofs.ConvertLaws.{refused_some}
 use Rattle.tokens.proofs.ToRecordLaws.{judged_packable, judged_short, judged_twice, record_of_lem, fitted_refused, fitted_within}
 use Rattle.tokens.proofs.pack.to_record.Goals as goal
 
-pub returns-then-j-ne0 : goal.returns-then-j-ne0
-returns-then-j-ne0 c =
+pub returns-in_err-judge : goal.returns-in_err-judge
+returns-in_err-judge c =
     let a = c.args in
     let b = bytes_of_lt a.s.now (λ i l. (c.type_inv.s i).fits) in
-    let f = fitted_refused a.s.now c.judge-j.result b c.judge-j.ensures.value (length a.out.now) c.if-j-ne0.true in
-    record { value = rw f; out_after = rw f }
+    let e = c.in_err-judge.field-0.0 in
+    let p = err_from_is_err_and c.from_residual.result c.from_residual.ensures.1 in
+    let j : Judged = record { status = number_of e; confined_at = 0 } in
+    let f = fitted_refused a.s.now j b c.in_err-judge.ensures.value (length a.out.now) (refused_some e) in
+    record { value = rw (p.1, p.2, f); out_after = rw f }
 
-pub pack-n-requires : goal.pack-n-requires
-pack-n-requires c =
+pub pack-requires : goal.pack-requires
+pack-requires c =
     let a = c.args in
     let b = bytes_of_lt a.s.now (λ i l. (c.type_inv.s i).fits) in
-    let h = c.if-j-ne0.false in
-    let w = judged_twice a.s.now c.judge-j.result b c.judge-j.ensures.value h in
+    let j : Judged = record { status = 0; confined_at = c.in_ok-judge.field-0 } in
+    let w = judged_twice a.s.now j b c.in_ok-judge.ensures.value refl in
     let k : length (record_bytes a.s.now) ≤ length a.out.now = omega (arith, c.if-s-out.true) in
-    (judged_packable a.s.now c.judge-j.result b c.judge-j.ensures.value h, k)
+    (judged_packable a.s.now j b c.in_ok-judge.ensures.value refl, k)
 
 pub returns-then-s-out : goal.returns-then-s-out
 returns-then-s-out c =
     let a = c.args in
     let b = bytes_of_lt a.s.now (λ i l. (c.type_inv.s i).fits) in
-    let h = c.if-j-ne0.false in
-    let w = judged_twice a.s.now c.judge-j.result b c.judge-j.ensures.value h in
-    let n = wrote_length c.pack-n.ensures in
-    let k : c.pack-n.result ≤ length a.out.now = omega (arith, c.if-s-out.true) in
-    let e = record_of_lem a.s.now c.judge-j.result b c.judge-j.ensures.value h in
-    let f = fitted_within (length a.out.now) c.pack-n.result (record_bytes a.s.now) n k in
-    record { value = rw (e, f) (ap (λ (m : ℕ). record { status = 0; length = m }) n); out_after = rw (e, f) c.pack-n.ensures.bytes }
+    let j : Judged = record { status = 0; confined_at = c.in_ok-judge.field-0 } in
+    let w = judged_twice a.s.now j b c.in_ok-judge.ensures.value refl in
+    let n = wrote_length c.pack.ensures in
+    let k : c.pack.result ≤ length a.out.now = omega (arith, c.if-s-out.true) in
+    let e = record_of_lem a.s.now j b c.in_ok-judge.ensures.value refl in
+    let f = fitted_within (length a.out.now) c.pack.result (record_bytes a.s.now) n k in
+    record { value = rw (e, f) (ap (λ (m : ℕ). record { status = 0; length = m }) n); out_after = rw (e, f) c.pack.ensures.bytes }
 
-pub packed_by-requires : goal.packed_by-requires
-packed_by-requires c =
+pub packed_in_room-requires : goal.packed_in_room-requires
+packed_in_room-requires c =
     let a = c.args in
     let b = bytes_of_lt a.s.now (λ i l. (c.type_inv.s i).fits) in
-    let h = c.if-j-ne0.false in
-    let w = judged_twice a.s.now c.judge-j.result b c.judge-j.ensures.value h in
+    let j : Judged = record { status = 0; confined_at = c.in_ok-judge.field-0 } in
+    let w = judged_twice a.s.now j b c.in_ok-judge.ensures.value refl in
     let k : length (record_bytes a.s.now) ≤ 2048 = omega (arith, c.if-s-le1024.true) in
-    (judged_packable a.s.now c.judge-j.result b c.judge-j.ensures.value h, buffer_room _ 2048 k)
+    (omega arith, judged_packable a.s.now j b c.in_ok-judge.ensures.value refl, k)
 
 pub returns-then-s-le1024 : goal.returns-then-s-le1024
 returns-then-s-le1024 c =
     let a = c.args in
     let b = bytes_of_lt a.s.now (λ i l. (c.type_inv.s i).fits) in
-    let h = c.if-j-ne0.false in
-    let e = record_of_lem a.s.now c.judge-j.result b c.judge-j.ensures.value h in
-    record { value = rw e c.packed_by.ensures.value; out_after = rw e c.packed_by.ensures.out_after }
+    let e = record_of_lem a.s.now (record { status = 0; confined_at = c.in_ok-judge.field-0 }) b c.in_ok-judge.ensures.value refl in
+    record { value = rw e c.packed_in_room.ensures.value; out_after = rw e c.packed_in_room.ensures.out_after }
 
-pub packed_by-requires-2 : goal.packed_by-requires-2
-packed_by-requires-2 c =
+pub packed_in_room-requires-2 : goal.packed_in_room-requires-2
+packed_in_room-requires-2 c =
     let a = c.args in
     let b = bytes_of_lt a.s.now (λ i l. (c.type_inv.s i).fits) in
-    let h = c.if-j-ne0.false in
-    let k = judged_short a.s.now c.judge-j.result b c.judge-j.ensures.value h in
-    (judged_packable a.s.now c.judge-j.result b c.judge-j.ensures.value h, buffer_room _ 28021 k)
+    let j : Judged = record { status = 0; confined_at = c.in_ok-judge.field-0 } in
+    (omega arith, judged_packable a.s.now j b c.in_ok-judge.ensures.value refl, judged_short a.s.now j b c.in_ok-judge.ensures.value refl)
 
 pub returns : goal.returns
 returns c =
     let a = c.args in
     let b = bytes_of_lt a.s.now (λ i l. (c.type_inv.s i).fits) in
-    let h = c.if-j-ne0.false in
-    let e = record_of_lem a.s.now c.judge-j.result b c.judge-j.ensures.value h in
-    record { value = rw e c.packed_by-2.ensures.value; out_after = rw e c.packed_by-2.ensures.out_after }
+    let e = record_of_lem a.s.now (record { status = 0; confined_at = c.in_ok-judge.field-0 }) b c.in_ok-judge.ensures.value refl in
+    record { value = rw e c.packed_in_room-2.ensures.value; out_after = rw e c.packed_in_room-2.ensures.out_after }

@@ -6,4 +6,4 @@ use Rattle.tokens.proofs.parts.authority.Goals as goal
 pub returns : goal.returns
 returns c =
     let u = u48_be_at_in c.args.w.now 2 c.requires in
-    omega (arith, u)
+    omega (arith, u, c.from_be_bytes.ensures)

@@ -26,4 +26,4 @@ overflow_add-result-2 c =
 pub returns : goal.returns
 returns c =
     let a : SidAt c.args.s.now c.args.at = sid_at c.args.s.now c.args.at c.requires in
-    record { value = omega (arith, c.wide.ensures.0); upper_bound = omega (arith, c.wide.ensures.0) }
+    record { value = omega (arith, c.from.ensures); upper_bound = omega (arith, c.from.ensures) }

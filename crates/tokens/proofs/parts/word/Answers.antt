@@ -6,4 +6,4 @@ use Rattle.tokens.proofs.parts.word.Goals as goal
 pub returns : goal.returns
 returns c =
     let u = u32_at_in c.args.w.now c.args.at c.requires in
-    omega (arith, u)
+    omega (arith, u, c.from_le_bytes.ensures)

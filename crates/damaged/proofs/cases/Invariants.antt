@@ -1,9 +1,0 @@
--- `cases` ends: each turn passes a line, so what is left of the text is less.
-use Rattle.std.proofs.Common.{◌-◌, ◌≤◌, length}
-use Rattle.damaged.proofs.cases.Given as goal
-
-abbrev pub invariant-loop-at : goal.invariant-loop-at
-invariant-loop-at g l = l.at ≤ length l.text
-
-abbrev pub decreases-loop-at : goal.decreases-loop-at
-decreases-loop-at g l = length l.text - l.at
