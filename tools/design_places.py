@@ -2,8 +2,8 @@
 """Counts the places of docs/DESIGN-PASS.md: `python3 tools/design_places.py [-l] [COMMIT]`.
 
 Without COMMIT it reads the checkout, with one what stood there. -l lists the places, a line each.
-Points 1 to 7 are read off crates/*/src/*.rt, point 8 off crates/*/proofs. A place under a line that
-begins `// kept:` is counted and marked."""
+Points 1 to 7 are read off crates/*/src/*.rt, point 8 off crates/*/proofs. Places that are kept are counted
+too, and so are the lines that begin `// kept: `."""
 import collections
 import os
 import re

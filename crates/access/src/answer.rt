@@ -9,6 +9,7 @@ use lists::Extent;
 
 // What was found; for the audit how long the token's listing is, and where the descriptor's owner and
 // SACL stand.
+// kept: `length` and no slice, for the clause `listing` of `findings_in` speaks of the whole room after.
 #[derive(Clone, Copy)]
 pub struct Findings {
     pub found: Found,
@@ -18,6 +19,7 @@ pub struct Findings {
 }
 
 // An answer, and how long its trail is in the buffer that was lent.
+// kept: `length` and no slice, for `Lent` speaks of the whole buffer after, and C is handed the length.
 #[derive(Clone, Copy)]
 pub struct Traced {
     pub answer: Answer,

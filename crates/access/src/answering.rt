@@ -1,6 +1,6 @@
 // The report on a question whose kind and mask were judged: what is found, the answer read off for
 // the mask, and its audit where a list asks for it.
-ghost use Rattle.std.specs.Prelude.{◌≡◌, true, ◌&&◌, ◌||◌, ◌≤◌, length};
+ghost use Rattle.std.specs.Prelude.{◌≡◌, true, ◌&&◌, ◌||◌, ◌≤◌, length, IfOk};
 ghost use Rattle.records.specs.Unpacking.{room_fits};
 ghost use Rattle.access.specs.Status.{posed};
 ghost use Rattle.access.specs.Reported.{lending, in_buffer, report_past, Lent};
@@ -21,14 +21,17 @@ fn is_asked(lent: bool, own: bool, ruled: bool, staged: bool) -> bool
 }
 
 // The report, where the token's listing is made in `room`, which is long enough for it.
+// kept: `lent` beside `out`, as in `reported`.
 fn answer_in(q: Question, room: &mut [u8], out: &mut [u8], lent: bool) -> Result<Traced, Refusal>
     requires { room_fits (length room.old) (length q.token.now) ≡ true }
-    ensures { Lent (in_buffer (length out.old) (lending lent (report_past (posed q.entry))))
+    ensures report { Lent (in_buffer (length out.old) (lending lent (report_past (posed q.entry))))
         out.old out.new (handed result) }
+    ensures accepted { IfOk result (λ t. t.answer.status ≡ 0) }
 {
     let f = findings_in(q, room)?;
     let found = f.found;
     let answer = read_off(q.kind, q.mask, found);
+    // kept: the places compared: a method of `Extent` would say no more in this one line.
     let own = f.sacl.from < f.sacl.to;
     if !is_asked(lent, own, found.has_sacl, found.has_staged_sacl) {
         return Ok(Traced { answer, length: 0 });
@@ -40,21 +43,26 @@ fn answer_in(q: Question, room: &mut [u8], out: &mut [u8], lent: bool) -> Result
 }
 
 // The report, with a room of N bytes for the listing.
+// kept: `lent` beside `out`, as in `reported`.
 fn answer_within<const N: usize>(q: Question, out: &mut [u8], lent: bool) -> Result<Traced, Refusal>
     requires few { N ≤ 65536 }
     requires fits { room_fits N (length q.token.now) ≡ true }
-    ensures { Lent (in_buffer (length out.old) (lending lent (report_past (posed q.entry))))
+    ensures report { Lent (in_buffer (length out.old) (lending lent (report_past (posed q.entry))))
         out.old out.new (handed result) }
+    ensures accepted { IfOk result (λ t. t.answer.status ≡ 0) }
 {
     let mut room = [0u8; N];
     answer_in(q, &mut room, out, lent)
 }
 
 // The report. The room for the token's listing is chosen by the record's length.
+// kept: `lent` beside `out`, as in `reported`.
 pub(crate) fn answered(q: Question, out: &mut [u8], lent: bool) -> Result<Traced, Refusal>
-    ensures { Lent (in_buffer (length out.old) (lending lent (report_past (posed q.entry))))
+    ensures report { Lent (in_buffer (length out.old) (lending lent (report_past (posed q.entry))))
         out.old out.new (handed result) }
+    ensures accepted { IfOk result (λ t. t.answer.status ≡ 0) }
 {
+    // kept: the sizes of `tokens::to_listing` again: a const argument is no value to hand out.
     match q.token.len() {
         0..=64 => answer_within::<256>(q, out, lent),
         65..=512 => answer_within::<2048>(q, out, lent),

@@ -1,6 +1,6 @@
 // The audit of an answer, over a token's flat listing: whether a staged SACL raises the staging flag,
 // and the trail in the buffer that was lent.
-ghost use Rattle.std.specs.Prelude.{◌<◌, ◌≤◌, length};
+ghost use Rattle.std.specs.Prelude.{◌≡◌, ◌<◌, ◌≤◌, length, IfOk};
 ghost use Rattle.policy.specs.ByLengths.{rules_by_lengths};
 ghost use Rattle.access.specs.Reported.{in_buffer, Lent};
 ghost use Rattle.access.specs.Evaluating.{crowd_in, report_in};
@@ -15,6 +15,7 @@ use passes::Crowd;
 
 // The report on an answer: the trail in `out` where that is lent, and 11 where it does not fit. The
 // normal identities are seated once more: no audit is made where no list asks for it.
+// kept: `lent` beside `out`, as in `reported`.
 pub(crate) fn audited(
     q: Question,
     listing: &[u8],
@@ -24,11 +25,14 @@ pub(crate) fn audited(
     out: &mut [u8],
     lent: bool,
 ) -> Result<Traced, Refusal>
-    requires { (length listing.now ≤ 32768) × (length (crowd_in listing.now) < 258) }
-    ensures { Lent (in_buffer (length out.old) (report_in lent q.entry.kind q.entry.mask.0
+    requires few { (length listing.now ≤ 32768) × (length (crowd_in listing.now) < 258) }
+    requires accepted { a.status ≡ 0 }
+    ensures report { Lent (in_buffer (length out.old) (report_in lent q.entry.kind q.entry.mask.0
         listing.now owner.now q.entry.me.now sacl.now
         (rules_by_lengths q.entry.policy.now) a)) out.old out.new (handed result) }
+    ensures accepted { IfOk result (λ t. t.answer.status ≡ 0) }
 {
+    // kept: tables on the stack, and the three steps again, as in `found_with` of evaluate.rt.
     let mut heads = [0u16; 512];
     let mut seats = [0u64; 258];
     passes::chain_crowd(listing, USER, true, &mut heads, &mut seats);

@@ -1,5 +1,5 @@
 // The check: a question's kind and mask, then what is found, then the answer.
-ghost use Rattle.std.specs.Prelude.{◌≡◌, length};
+ghost use Rattle.std.specs.Prelude.{◌≡◌, length, IfOk};
 ghost use Rattle.masks.specs.KindsAndMasks.{known_kind};
 ghost use Rattle.access.specs.Status.{posed, checked};
 ghost use Rattle.access.specs.Reported.{report_of, lending, in_buffer, Lent};
@@ -21,8 +21,9 @@ fn is_kind(kind: u32) -> bool
 // kept: `lent` beside `out`, for as `Option<&mut [u8]>` the proof does not close: tried on functions that
 // pass one on, as `answered` does, which could not say what is left in the buffer.
 pub fn reported(q: Question, out: &mut [u8], lent: bool) -> Result<Traced, Refusal>
-    ensures { Lent (in_buffer (length out.old) (lending lent (report_of (posed q.entry))))
+    ensures report { Lent (in_buffer (length out.old) (lending lent (report_of (posed q.entry))))
         out.old out.new (handed result) }
+    ensures accepted { IfOk result (λ t. t.answer.status ≡ 0) }
 {
     if !is_kind(q.kind) {
         return Err(Refusal::UnknownKind);

@@ -14,12 +14,11 @@ use passes::Crowd;
 // Where the user stands in a listing.
 pub(crate) const USER: usize = 12;
 
-// kept: tables and seats are arrays on the stack, which no heap and fixed memory ask for; a chain of
-// indices stands in them for the same reason.
-
 // What is evaluated: a kind, a token's listing with the place of its confinement identity, where the
 // token is confined, the owner and the self identity, the descriptor's list, which was judged before
 // and is empty where it is not present, and the policy.
+// kept: `present` beside `list`, for `found_in` of Evaluating reads both (`dacl_as`), and a null DACL is
+// walked too, over no entries.
 #[derive(Clone, Copy)]
 pub(crate) struct Case<'a> {
     pub(crate) kind: u32,
@@ -43,6 +42,7 @@ fn confines(flags: u32) -> bool
 fn few_beside(listing: &[u8], at: usize, n: u32) -> bool
     ensures { result ≡ ltb (beside listing.now at) n }
 {
+    // kept: 0 where no SID stands, for `beside` of Evaluating reads on at that place.
     let e = sids::sid_end(listing, at).unwrap_or(0);
     base::u32_at(listing, e) < n
 }
@@ -50,6 +50,7 @@ fn few_beside(listing: &[u8], at: usize, n: u32) -> bool
 impl<'a> Case<'a> {
     // The bits that confinement leaves: the list alone, with the confinement identities, for allow
     // and deny both. They are seated in `seats`.
+    // kept: `Seatable` here, in `found_with`, `seated` and `found`: it speaks of the seats, which differ.
     fn confinement(self, seats: &mut [u64]) -> Rights
         requires { Seatable self.listing.now self.place (length seats.old) }
         ensures { result.0 ≡ confinement_at self.entry }
@@ -57,6 +58,7 @@ impl<'a> Case<'a> {
         if !confines(base::u32_at(self.listing, 0)) {
             return Tally::EVERYTHING;
         }
+        // kept: two tables, on the stack, and a chain of indices in them: no heap, fixed memory.
         let mut heads = [0u16; 512];
         passes::chain_crowd(self.listing, self.place, false, &mut heads, seats);
         let crowd = Crowd::of(self.listing, &heads, seats, self.owner, self.me);
@@ -70,7 +72,9 @@ impl<'a> Case<'a> {
         requires { Seatable self.listing.now self.place (length seats.old) }
         ensures { result ≡ found_at self.entry }
     {
-        let kept = self.confinement(seats);
+        let left = self.confinement(seats);
+        // kept: tables as in `confinement`, and the three steps again: the crowd borrows the tables, so a
+        // function that made both could not hand it out.
         let mut heads = [0u16; 512];
         passes::chain_crowd(self.listing, USER, true, &mut heads, seats);
         let crowd = Crowd::of(self.listing, &heads, seats, self.owner, self.me);
@@ -78,7 +82,7 @@ impl<'a> Case<'a> {
         let walked = crowd.pass(self.kind, self.list);
         let normal = passes::normal(self.kind, self.present, walked, crowd.hits, privileges);
         let rules = policy::ruled_by(self.policy, self.kind, crowd, privileges);
-        let confined = Rights(normal.0 & kept.0);
+        let confined = Rights(normal.0 & left.0);
         let ruled = Rights(confined.0 & rules.left.0);
         let differ = rules.differ;
         Found {
@@ -97,6 +101,7 @@ impl<'a> Case<'a> {
         requires seatable { Seatable self.listing.now self.place N }
         ensures { result ≡ found_at self.entry }
     {
+        // kept: an array on the stack: no heap, fixed memory.
         let mut seats = [0u64; N];
         self.found_with(&mut seats)
     }

@@ -16,14 +16,15 @@ use lists::Extent;
 use tokens::Listed;
 
 // Lists the token's record at the front of `room`, which is long enough for it.
+// kept: `room_fits` here, in `findings_in`, `answer_in` and `answer_within`: it speaks of a lent room and of
+// a record, and a type that borrows both is no plainer.
 fn list_record(token: &[u8], room: &mut [u8]) -> Result<Listed, Refusal>
     requires { room_fits (length room.old) (length token.now) ≡ true }
     ensures number { number_told result ≡ (as_listing token.now).status }
     ensures listing { IfOk result (ListedIn token.now room.new) }
     ensures bytes { (i : ℕ) → slice_index token.now i < 256 }
 {
-    let l = tokens::list_in(token, room)?;
-    Ok(l)
+    Ok(tokens::list_in(token, room)?)
 }
 
 // Whether a self identity is empty or exactly one SID.
@@ -34,7 +35,8 @@ fn self_fits(me: &[u8]) -> bool
 }
 
 // The bytes of an extent that lies inside: what `lists::part` gives, and no test.
-// kept: beside `lists::part`, since testing the extent once more is too slow (docs/DECISIONS.md, 81).
+// kept: beside `lists::part`, since testing the extent once more is too slow (docs/DECISIONS.md, 81); and not
+// shared with the policy's `bytes_of`, since a public function asks nothing.
 fn cut(d: &[u8], x: Extent) -> &[u8]
     requires { descriptor.LiesIn (length d.now) x }
     ensures { result.now ≡ part d.now x.from x.to }

@@ -101,11 +101,11 @@ fn event_at(trail: &[u8], at: usize) -> Option<(Event, usize)> {
     Some((event, mask.next))
 }
 
-// A line for each event of the first `length` bytes. What the library wrote there is a trail; where
-// bytes are none, this ends.
-fn print_events(rt: &impl Print, trail: &[u8], length: usize) -> io::Result<()> {
+// A line for each event of a trail. Where bytes are none, this ends.
+fn print_events(rt: &impl Print, trail: &[u8]) -> io::Result<()> {
     let mut at: usize = 0;
-    while at < length {
+    // kept: an event says itself where the next begins, so there is no range to go through.
+    while at < trail.len() {
         match event_at(trail, at) {
             Some((event, next)) if at < next => {
                 rt.println(event)?;
@@ -124,7 +124,7 @@ fn print_trail(rt: &impl Print, file: &[u8]) -> io::Result<()> {
     let mut trail = [0u8; 36864];
     let t = questions::trail_question(file, &mut trail);
     rt.println(Line(t.answer))?;
-    print_events(rt, &trail, t.length)
+    print_events(rt, &trail[..t.length.min(trail.len())])
 }
 
 fn print_told(rt: &impl Print, file: &[u8], t: Task) -> io::Result<()> {

@@ -55,6 +55,8 @@ impl<'a> Asked<'a> {
             (lists_by_lengths s.now r))) }
         ensures upper_bound { result ≤ o + 30 * 65536 }
     {
+        // kept: cut here, as in `rule_stages`: `bytes_of` of policy asks something of its caller, so it is
+        // not public.
         let sacl = &s[r.sacl.from..r.sacl.to];
         if sacl.is_empty() || !self.crowd.admits(&s[r.applies.from..r.applies.to]) {
             return o;
@@ -72,6 +74,8 @@ impl<'a> Asked<'a> {
             (rules_by_lengths s.now))) }
     {
         let mut to = o;
+        // kept: no plainer: `enumerate` counts from 0 in `usize`, so one would be added and the sum cast; a
+        // range of 256 stops short, as no policy is judged here.
         let mut source = 0;
         for r in Rules::of(s) {
             source += 1;

@@ -25,6 +25,7 @@ impl<'a> Asked<'a> {
 
     // The length of the trail of a question whose SACL and policy were judged before, which is then
     // at the front of `out`. None where it does not fit; nothing is written then.
+    // kept: a length beside the lent buffer: the clauses speak of the whole buffer after (`noted`).
     pub fn report(self, sacl: &[u8], policy: &[u8], out: &mut [u8]) -> Option<usize>
         ensures value { let w = trail_bytes (events_of self.entry.sought (shown_in self.entry.crowd)
             self.entry.crowd.hits sacl.now (rules_by_lengths policy.now))

@@ -57,6 +57,8 @@ impl<'a> Iterator for Events<'a> {
     ghost remaining = { item_count events_left };
 
     fn next(&mut self) -> Option<Event> {
+        // kept: the place goes along with the number, and `events_left` speaks of both, so the iterator
+        // counts by itself.
         while self.entry < self.count {
             let read = entry_at(self.list, self.place)?;
             let entry = self.entry;

@@ -20,6 +20,7 @@ fn store(out: &mut [u8], i: usize, b: u8, write: bool)
 }
 
 // A number in sevens at place `o`, shortest form; answers the place after it.
+// kept: `put` of tokens writes the same, but never measures, and is made for speed.
 fn put(out: &mut [u8], o: usize, v: u64, write: bool) -> usize
     requires { (o + 10 < 2 ^ 64) × Room write out.old o (packed v) }
     ensures { Noted write out.old out.new o result (packed v) }
@@ -42,6 +43,7 @@ pub(crate) fn put_event(out: &mut [u8], o: usize, e: Event, write: bool) -> usiz
     ensures noted { Noted write out.old out.new o result (event_bytes (event_of e)) }
     ensures upper_bound { result ≤ o + 30 }
 {
+    // kept: `as u64`: with `u64::from` the proof did not close.
     let a = put(out, o, e.source as u64, write);
     let b = put(out, a, e.entry as u64, write);
     put(out, b, e.mask.0 as u64, write)

@@ -1,11 +1,12 @@
 // Numbers of two, four and eight bytes, lowest first, and equality of bytes. Each is total: what is
 // not wholly there reads as 0.
-// kept: 0 and no Option, since `u16_at`, `u32_at` and `u64_at` of specs say 0, and every law of lists
-// and tokens stands on these; and three functions, since each of the three has its own definition.
 ghost use Rattle.std.specs.Prelude.{◌≡◌, ◌<◌, ◌^◌, length};
 ghost use Rattle.base.specs.Bytes.{u16_at, u32_at, u64_at, same};
 
 // The number in the two bytes at a place, or 0 where they are not both there.
+// kept: 0 and no Option: it cannot fail, and a public function that could not fail still can't; past
+// the end the definitions read on with 0.
+// kept: three functions for three widths: each of the three has its own definition in specs.
 pub fn u16_at(s: &[u8], at: usize) -> u32
     ensures value { result ≡ u16_at s.now at }
     ensures upper_bound { result < 65536 }
@@ -17,12 +18,14 @@ pub fn u16_at(s: &[u8], at: usize) -> u32
 }
 
 // The number in the four bytes at a place, or 0 where they are not all there.
+// kept: 0 and no Option: it cannot fail, and a public function that could not fail still can't.
 pub fn u32_at(s: &[u8], at: usize) -> u32
     ensures { result ≡ u32_at s.now at }
 {
     if s.len() < 4 || s.len() - 4 < at {
         return 0;
     }
+    // kept: by 256 and no `from_le_bytes`: the edit `highest_byte_swapped` is of these lines.
     u32::from(s[at])
         + 256 * u32::from(s[at + 1])
         + 65536 * u32::from(s[at + 2])
@@ -30,6 +33,7 @@ pub fn u32_at(s: &[u8], at: usize) -> u32
 }
 
 // The number in the eight bytes at a place, or 0 where they are not all there.
+// kept: 0 and no Option: it cannot fail, and a public function that could not fail still can't.
 pub fn u64_at(s: &[u8], at: usize) -> u64
     ensures { result ≡ u64_at s.now at }
 {

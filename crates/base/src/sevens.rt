@@ -1,7 +1,5 @@
-// Numbers in groups of seven bits, lowest first, shortest form only. One reader over the width;
-// 32, 48 and 64 bits are its three doors. `word32` is a fourth, with a short way of its own.
-// kept: three doors by name, since one that is generic over the width would ask its caller for a width
-// from 8 to 64, and a public function here asks nothing.
+// Numbers in groups of seven bits, lowest first, shortest form only. One reader takes the width;
+// `number32`, `number48` and `number64` name it. `word32` has a short way of its own.
 ghost use Rattle.std.specs.Prelude.{◌≡◌, ◌+◌, ◌≤◌, ◌<◌, ◌^◌, length, IfSome};
 ghost use Rattle.base.specs.Bytes.{byte_at};
 ghost use Rattle.base.specs.Bytes.Read.{some};
@@ -61,6 +59,7 @@ fn longer(s: &[u8], at: usize, bits: u32) -> Option<Num>
             return None;
         }
         value += (b - 128) << shift;
+        // kept: goes along with `place`; the edit `groups_eight_bits_apart` is of this step.
         shift += 7;
     }
     None
@@ -68,6 +67,7 @@ fn longer(s: &[u8], at: usize, bits: u32) -> Option<Num>
 
 // The number that starts at `at`, in at most `bits` bits. Nearly all take one byte: that is the
 // short way.
+// kept: `value_bound` five times in this file: each of the public functions promises it.
 fn number_at(s: &[u8], at: usize, bits: u32) -> Option<Num>
     requires { (7 < bits) × (bits ≤ 64) }
     ensures value { result ≡ num_of (number bits s.now at) }
@@ -80,8 +80,9 @@ fn number_at(s: &[u8], at: usize, bits: u32) -> Option<Num>
     longer(s, at, bits)
 }
 
-// The number that starts at `at`, in at most 32 bits; as all three, none where it is cut short, in
-// a longer form or too wide.
+// The number that starts at `at`, in at most 32 bits. None where it is cut short, in a longer form
+// or too wide; so with 48 and 64 bits.
+// kept: three functions for three widths: an enum of widths, with its bits, is longer than these.
 pub fn number32(s: &[u8], at: usize) -> Option<Num>
     ensures value { result ≡ num_of (number 32 s.now at) }
     ensures value_bound { IfSome result (λ n. (n.value < 2 ^ 32) × (n.next ≤ length s.now)) }
@@ -125,6 +126,7 @@ fn large32(s: &[u8], at: usize, first: u64) -> Option<Num>
 
 // What `number32` answers, with a short way for five bytes beside that for one: most words of an
 // identity take the one or the other.
+// kept: the contract of `number32` again, for speed: docs/DECISIONS.md, entry 54.
 pub fn word32(s: &[u8], at: usize) -> Option<Num>
     ensures value { result ≡ num_of (number 32 s.now at) }
     ensures value_bound { IfSome result (λ n. (n.value < 2 ^ 32) × (n.next ≤ length s.now)) }

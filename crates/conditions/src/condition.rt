@@ -21,6 +21,7 @@ pub trait Tests {
 }
 
 // The place after what the length behind the token at `at` encloses, where it fits.
+// kept: the clause `inside` here and below: a name for it would take the same three numbers.
 fn enclosed_end(s: &[u8], at: usize) -> Option<usize>
     ensures value { result ≡ found (enclosed_end s.now at) }
     ensures inside { IfSome result (λ e. (at + 5 ≤ e) × (e ≤ length s.now)) }
@@ -74,10 +75,12 @@ fn stray(b: u8) -> Fault
 }
 
 // What a composite encloses: SID literals back to back, or the first fault.
+// kept: `meets` of passes walks them too, but compares; this tells what a stray byte is.
 fn literals(c: &[u8]) -> Result<(), Fault>
     ensures { result ≡ scan_result (literals c.now) }
 {
     let mut at = 0;
+    // kept: each literal says where the next begins, so there is no range to go over.
     while at < c.len() {
         if c[at] != 0x51 {
             return Err(stray(c[at]));
@@ -157,6 +160,7 @@ pub fn weigh<T: Tests>(s: &[u8], who: &T) -> Result<bool, Fault>
         to: 0,
     };
     let mut at: usize = 4;
+    // kept: each token says where the next begins, so there is no range to go over.
     while at < s.len() {
         if s[at] == 0 {
             if zeros(&s[at..]) {

@@ -1,6 +1,6 @@
 // The stack of an expression, by value: a digit of two bits for each operand, the latest lowest.
 // The digits are 1 false, 2 true, 3 a list of SIDs; so 0 is no operand, and 62 bits hold 31. Only
-// the latest operand's place is kept: a list that another operand covers is never asked again.
+// the latest operand has a place: a list that another operand covers is never asked again.
 ghost use Rattle.std.specs.Prelude.{◌≡◌, ◌≤◌, ◌&&◌, ◌||◌, cond, List, ◌∷◌};
 ghost use Rattle.conditions.specs.Condition.{Item, push, negated, paired, ended};
 ghost use Rattle.conditions.specs.Scanning.{weighed};
@@ -9,6 +9,7 @@ ghost use Rattle.conditions.specs.Stack.{word_of, coded, item_of, truth_in, Step
 use crate::fault::Fault;
 
 // The operands, and where the latest stands if it is a list; else 0 and 0.
+// kept: 0 and 0 and no Option: `coded` of specs says so, and the word tells what the latest is.
 #[derive(Clone, Copy)]
 pub(crate) struct Stack {
     pub word: u64,

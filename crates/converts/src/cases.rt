@@ -1,6 +1,5 @@
 // The cases of a file: a line with a name, and after it the record of a token, its listing, or
 // both.
-// kept: buffers of a fixed size, which `testkit::bytes_of` is lent and whose end it has to heed.
 ghost use Rattle.std.specs.Prelude.{◌≤◌};
 
 use crate::report::{Form, pair_into, refused};
@@ -9,6 +8,7 @@ use testkit::{Lines, bytes_of, first_line};
 
 // Puts the bytes of a form, in hexadecimal digits up to a line end, into a buffer, and answers how
 // many they are: none where digits are missing or there is no room.
+// kept: buffers of a fixed size, which `testkit::bytes_of` is lent and whose end it has to heed.
 fn form(digits: &[u8], bytes: &mut [u8; 4096]) -> usize
     ensures { result ≤ 4096 }
 {

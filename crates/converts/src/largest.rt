@@ -1,7 +1,5 @@
 // Tokens too long to write out, built from parts: 256 groups and 64 capabilities, each identity of
 // 15 words, each number the largest of its field.
-// kept: buffers of the largest size, and a place beside each: what is built is shown short of room too,
-// and a Vec would grow.
 ghost use Rattle.std.specs.Prelude.{◌≡◌};
 ghost use Rattle.converts.specs.Buffers.{build, puts, fills, crowds};
 ghost use Rattle.converts.specs.Forms.{crowd_of, but_last, parts_but_last};
@@ -10,6 +8,8 @@ use crate::report::{Form, pair_into, refused};
 use std::io;
 
 // Copies a part to a place, as far as the buffer goes, and answers the place after it.
+// kept: a place by hand: `puts` stops at the buffer's end byte by byte, as this does; a copy of the
+// shorter part has to ask of a place past the end besides, and is no plainer.
 fn put(out: &mut [u8], at: usize, part: &[u8]) -> usize
     ensures { build out.new result
         ≡ puts part.now (build out.old at) }
@@ -121,6 +121,8 @@ fn but_last(out: &mut [u8], form: Form) -> usize
 
 // The largest token that no rule refuses: its last capability is S-1-15-2-2.
 pub(crate) fn accepted(rt: &impl Print) -> io::Result<()> {
+    // kept: buffers of the largest size, and a place beside each: what is built is shown short of
+    // room too, and a Vec would grow.
     let mut packed = [0u8; 28021];
     let r = but_last(&mut packed, Form::Record);
     let n = put(&mut packed, r, b"\x02\x0f\x02\x02");

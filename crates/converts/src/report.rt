@@ -11,6 +11,7 @@ use testkit::print;
 use tokens::Refusal;
 
 // The two forms of a token.
+// kept: `vectors` has its own: `testkit` knows no tokens, and what each is converted to differs.
 #[derive(Clone, Copy)]
 pub(crate) enum Form {
     Record,
@@ -32,6 +33,7 @@ fn print_answer(
     buffer: &[u8],
     wanted: &[u8],
 ) -> io::Result<()> {
+    // kept: the line that is printed has both, the status and the length.
     let (status, length) = match answer {
         Ok(length) => (0, length),
         Err(refusal) => (refusal.number(), 0),

@@ -12,6 +12,7 @@ use std::io;
 use testkit::{Lines, print};
 
 // The page's number for what is wrong with a descriptor, 0 where nothing is.
+// kept: `number_of` gives these numbers of the definition's `Verdict`; `lists::Refusal` has none.
 fn number(d: &[u8]) -> u64
     ensures { result ≡ number_of (parts_of d.now).verdict }
 {
@@ -37,7 +38,7 @@ fn lengths(rt: &impl Print) -> io::Result<()> {
     show(rt, b"length 19", &d[0..19])?;
     show(rt, b"length 20", &d[0..20])?;
     show(rt, b"length 63", &d[0..63])?;
-    show(rt, b"length 64", &d[0..64])
+    show(rt, b"length 64", &d)
 }
 
 // An owner alone, S-1-0 at 20, and zeros after it.
@@ -51,7 +52,7 @@ fn longest(rt: &impl Print) -> io::Result<()> {
     show(rt, b"length 27", &d[0..27])?;
     show(rt, b"length 28", &d[0..28])?;
     show(rt, b"length 65535", &d[0..65535])?;
-    show(rt, b"length 65536", &d[0..65536])
+    show(rt, b"length 65536", &d)
 }
 
 // Puts another byte at a place, if 64 bytes have it.
@@ -71,6 +72,7 @@ fn changed(changes: &[u8]) -> [u8; 64]
     ensures { result ≡ changed changes.now (length changes.now / 2) }
 {
     let mut d = testkit::descriptor();
+    // kept: a number and not `chunks_exact(2)`: the contract's `changed` counts the changes.
     for k in 0..changes.len() / 2 {
         place(&mut d, changes[2 * k], changes[2 * k + 1]);
     }

@@ -1,6 +1,6 @@
 // What the programs share: their arguments and the files that these name, and the line on standard
-// error that says what failed. What the system answers, and what is written, no contract can say;
-// every other result is stated.
+// error that says what failed. What the system answers, and what is written, no contract can say: of
+// `is_given`, `open` and the text of an error (`reason`) nothing is stated. Every other result is.
 #![tactic(auto)]
 
 ghost use Rattle.std.specs.Prelude.{◌≡◌, ◌≤◌, length, take, IfOk, IfSome};

@@ -1,6 +1,6 @@
 -- How the code answers of a descriptor (specs: Handed). In order: a part that an offset names (piece_fault, piece_ok, some_there,
 -- none_absent, place_sound, alien_sound, none_sound, none_is); what four come to (handed_ownerless, -foreign, -whole); the whole (handed_bad, read_by,
--- read_owner, -group, -sacl, -dacl); each part lies inside (handed_inside); the bytes of a part (bytes_none, bytes_some).
+-- read_owner, -group, -sacl, -dacl); each part lies inside (handed_inside); the bytes of a part (bytes_none, bytes_owner, -group, -sacl, -dacl).
 -- Assumes nothing.
 use Prim.Native.Nat.{ℕ}
 use mathlib.Core.Path.{◌≡◌, refl, sym, ap, ◌∙◌}
@@ -10,15 +10,14 @@ use lib.ListN.{length}
 use Rattle.std.specs.Prelude.{Option, None, Some, Result, Ok, Err, IfOk, is_some, is_none}
 use Rattle.base.specs.Bytes.{part}
 use Rattle.lists.specs.Descriptor.{Piece, Verdict, heading, bad, absent, alien, place_of, LiesIn, Inside, part_in}
+use Rattle.lists.specs.Descriptor.{owner_of, group_of, sacl_of, dacl_of}
 use Rattle.lists.specs.Descriptor.{owner_piece, group_piece, sacl_piece, dacl_piece, refused_parts, judged, parts_of}
 use Rattle.lists.specs.Descriptor.Piece.{Bad, Absent, At, Alien}
 use Rattle.lists.specs.Descriptor.Verdict.{Whole, Misshapen, Ownerless, ForeignEntry}
-use Rattle.lists.specs.Handed.{sound, piece_result, place_in, alien_in, refused_by, handed, Within, bytes_of}
+use Rattle.lists.specs.Handed.{sound, piece_result, place_in, alien_in, refused_by, handed, Within}
 use Rattle.lists.specs.declared.descriptor.Extent.{Extent}
 use Rattle.lists.specs.declared.descriptor.Found.{Found}
 use Rattle.lists.specs.declared.descriptor.Descriptor.{Descriptor}
-use Rattle.lists.specs.declared.descriptor.Which.{Which}
-use Rattle.lists.specs.declared.descriptor.Which.TheVariants.{Owner, Group, Sacl, Dacl}
 use Rattle.lists.specs.declared.descriptor.Refusal.{Refusal}
 use Rattle.lists.specs.declared.descriptor.Refusal.TheVariants as refusal
 use Rattle.lists.proofs.DescriptorSteps.{judged_owner_bad, judged_group_bad, judged_sacl_bad, judged_dacl_bad}
@@ -187,8 +186,9 @@ handed_inside d r e = rw e (go (parts_of d).verdict)
 -- ---- the bytes of a part
 
 module _ (d : List ℕ) where
-  pub bytes_none : (r : Refusal) → Err r ≡ handed (parts_of d) → (which : Which) → [] ≡ bytes_of which d
-  bytes_none r q which = go which
+  pub bytes_none : (r : Refusal) → Err r ≡ handed (parts_of d) →
+      (owner_of d ≡ []) × ((group_of d ≡ []) × ((sacl_of d ≡ []) × (dacl_of d ≡ [])))
+  bytes_none r q = refused_nothing d refused
     where
       refused : (parts_of d).verdict ≡ Whole → ⊥
       refused e =
@@ -202,12 +202,6 @@ module _ (d : List ℕ) where
           } in
           let z : Err r ≡ Ok whole = q ∙ ap (λ (v : Verdict). refused_by v whole) e in
           cc
-
-      go : (k : Which) → [] ≡ bytes_of k d
-      go Owner = sym (refused_nothing d refused).0
-      go Group = sym (refused_nothing d refused).1.0
-      go Sacl = sym (refused_nothing d refused).1.1.0
-      go Dacl = sym (refused_nothing d refused).1.1.1
 
   module _ (p : Descriptor) (e : Ok p ≡ handed (parts_of d)) where
     same : p ≡ record {
@@ -242,14 +236,14 @@ module _ (d : List ℕ) where
     lies : (x : Extent) (y : Extent) → x ≡ y → LiesIn (length d) y → part_in d x.from x.to ≡ part d y.from y.to
     lies x y q i = ap (λ (o : Extent). part_in d o.from o.to) q ∙ part_in_inside d y.from y.to i.0 i.1
 
-    pub bytes_owner : part_in d p.owner.from p.owner.to ≡ bytes_of Owner d
+    pub bytes_owner : part_in d p.owner.from p.owner.to ≡ owner_of d
     bytes_owner = lies p.owner (parts_of d).owner (ap (λ (k : Descriptor). k.owner) same) (parts_bounds d).owner
 
-    pub bytes_group : part_in d p.group.from p.group.to ≡ bytes_of Group d
+    pub bytes_group : part_in d p.group.from p.group.to ≡ group_of d
     bytes_group = lies p.group (parts_of d).group (ap (λ (k : Descriptor). k.group) same) (parts_bounds d).group
 
-    pub bytes_sacl : part_in d p.sacl.from p.sacl.to ≡ bytes_of Sacl d
+    pub bytes_sacl : part_in d p.sacl.from p.sacl.to ≡ sacl_of d
     bytes_sacl = lies p.sacl (parts_of d).sacl (ap (λ (k : Descriptor). k.sacl) same) (parts_bounds d).sacl
 
-    pub bytes_dacl : part_in d p.dacl.from p.dacl.to ≡ bytes_of Dacl d
+    pub bytes_dacl : part_in d p.dacl.from p.dacl.to ≡ dacl_of d
     bytes_dacl = lies p.dacl (parts_of d).dacl (ap (λ (k : Descriptor). k.dacl) same) (parts_bounds d).dacl

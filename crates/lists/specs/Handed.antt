@@ -1,14 +1,11 @@
 -- How the code answers: a descriptor's parts, or why it is refused.
-use Rattle.std.specs.Prelude.{ℕ, List, Bool, true, false, Option, None, Some, Result, Ok, Err}
-use Rattle.base.specs.Bytes.{part}
-use Rattle.lists.specs.Descriptor.{Piece, Parts, Verdict, LiesIn, parts_of}
+use Rattle.std.specs.Prelude.{ℕ, Bool, true, false, Option, None, Some, Result, Ok, Err}
+use Rattle.lists.specs.Descriptor.{Piece, Parts, Verdict, LiesIn}
 use Rattle.lists.specs.Descriptor.Piece.{Bad, Absent, At, Alien}
 use Rattle.lists.specs.Descriptor.Verdict.{Whole, Misshapen, Ownerless, ForeignEntry}
 use Rattle.lists.specs.declared.descriptor.Extent.{Extent}
 use Rattle.lists.specs.declared.descriptor.Found.{Found}
 use Rattle.lists.specs.declared.descriptor.Descriptor.{Descriptor}
-use Rattle.lists.specs.declared.descriptor.Which.{Which}
-use Rattle.lists.specs.declared.descriptor.Which.TheVariants.{Owner, Group, Sacl, Dacl}
 use Rattle.lists.specs.declared.descriptor.Refusal.{Refusal}
 use Rattle.lists.specs.declared.descriptor.Refusal.TheVariants as refusal
 
@@ -52,13 +49,3 @@ pub record Within (n : ℕ) (p : Descriptor) : Type 0 where
   pub group : LiesIn n p.group
   pub sacl : LiesIn n p.sacl
   pub dacl : LiesIn n p.dacl
-
--- the bytes of one part
-abbrev pub extent_of : Which → Parts → Extent
-extent_of Owner p = p.owner
-extent_of Group p = p.group
-extent_of Sacl p = p.sacl
-extent_of Dacl p = p.dacl
-
-abbrev pub bytes_of : Which → List ℕ → List ℕ
-bytes_of which d = part d (extent_of which (parts_of d)).from (extent_of which (parts_of d)).to

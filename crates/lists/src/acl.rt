@@ -1,7 +1,5 @@
 // One list and its entries, at places of lent bytes. What an identity is stands in `sids`,
 // what a condition is in `conditions`.
-// kept: `deep`, a truth, says that the list is a DACL, for the definitions ask by it (`entry_end`,
-// `scan_of`); `acl_end` and `head_end` stand apart, since each tests other fields by other bounds.
 ghost use Rattle.std.specs.Prelude.{◌≡◌, ◌||◌, ◌+◌, ◌≤◌, ◌<◌, length, eqb, IfSome};
 ghost use Rattle.base.specs.Bytes.{found};
 ghost use Rattle.conditions.specs.Scanning.{scan_result};
@@ -21,6 +19,7 @@ pub struct Rights(pub u32);
 // another, or nothing.
 #[derive(Clone, Copy)]
 pub struct Ace {
+    // kept: a number: `ace_by_length` does not ask the type, so an enum needs a case for any other.
     pub kind: u8,
     pub flags: u8,
     pub mask: Rights,
@@ -37,21 +36,16 @@ fn is_revision(b: u8) -> bool
 }
 
 // The place after the ACL whose heading stands at `at`, if it is well shaped and fits.
+// kept: the clause `inside` here and below: a name for it would take the same three numbers.
 pub fn acl_end(s: &[u8], at: usize) -> Option<usize>
     ensures value { result ≡ found (acl_end s.now at) }
     ensures inside { IfSome result (λ e. (at + 8 ≤ e) × (e ≤ length s.now)) }
 {
-    if s.len() < 8 || s.len() - 8 < at {
-        return None;
-    }
-    if !is_revision(s[at]) {
+    if s.len() < 8 || s.len() - 8 < at || !is_revision(s[at]) {
         return None;
     }
     let n = base::u16_at(s, at + 2) as usize;
-    if n < 8 {
-        return None;
-    }
-    if s.len() - at < n {
+    if n < 8 || s.len() - at < n {
         return None;
     }
     Some(at + n)
@@ -59,6 +53,7 @@ pub fn acl_end(s: &[u8], at: usize) -> Option<usize>
 
 // The place after the entry whose heading stands at `at`, if that is well shaped and fits. Its body
 // is not judged.
+// kept: apart from `acl_end`: the two test other fields by other bounds.
 fn head_end(l: &[u8], at: usize) -> Option<usize>
     ensures value { result ≡ found (head_end l.now at) }
     ensures inside { IfSome result (λ e. (at + 4 ≤ e) × (e ≤ length l.now)) }
@@ -67,13 +62,7 @@ fn head_end(l: &[u8], at: usize) -> Option<usize>
         return None;
     }
     let n = base::u16_at(l, at + 2) as usize;
-    if n % 4 != 0 {
-        return None;
-    }
-    if n < 4 {
-        return None;
-    }
-    if l.len() - at < n {
+    if n % 4 != 0 || n < 4 || l.len() - at < n {
         return None;
     }
     Some(at + n)
@@ -81,6 +70,8 @@ fn head_end(l: &[u8], at: usize) -> Option<usize>
 
 // Whether the entry from `at` to `e` holds a mask and one SID. What follows the SID is not asked.
 // Its bytes are those of the list, so that only its own end is asked for.
+// kept: by the tests of `sid_end` and not by a call, which took longer: docs/DECISIONS.md, entry 46.
+// kept: the clause on `at` and `e` here and below: a name for it would take the same two and the list.
 fn holds(l: &[u8], at: usize, e: usize) -> bool
     requires { (at ≤ e) × (e ≤ length l.now) }
     ensures { result ≡ holds l.now at e }
@@ -122,6 +113,7 @@ fn is_judged(kind: u8, deep: bool) -> bool
 }
 
 // The place after the entry at `at`, if one stands there; `deep` in a DACL.
+// kept: `deep`, a truth, here and below: the definitions ask it (`entry_end`, `scan_of`, `simple`).
 pub fn entry_end(l: &[u8], at: usize, deep: bool) -> Option<usize>
     ensures value { result ≡ found (entry_end deep l.now at) }
     ensures inside { IfSome result (λ e. (at + 4 ≤ e) × (e ≤ length l.now)) }
@@ -162,7 +154,7 @@ fn scan_all(l: &[u8], deep: bool) -> Result<(), Fault>
 {
     let mut alien = false;
     let mut at: usize = 8;
-    for _k in 0..base::u16_at(l, 4) {
+    for _ in 0..base::u16_at(l, 4) {
         let Some(e) = entry_end(l, at, deep) else {
             return Err(Fault::Broken);
         };
@@ -190,14 +182,11 @@ fn is_simple(l: &[u8], deep: bool) -> bool
     ensures { result ≡ simple deep l.now }
 {
     let mut at: usize = 8;
-    for _k in 0..base::u16_at(l, 4) {
+    for _ in 0..base::u16_at(l, 4) {
         let Some(e) = head_end(l, at) else {
             return false;
         };
-        if 1 < l[at] {
-            return false;
-        }
-        if !fits(l, at, e, deep) {
+        if 1 < l[at] || !fits(l, at, e, deep) {
             return false;
         }
         at = e;

@@ -7,6 +7,7 @@ use crate::acl::{Ace, Rights};
 
 // The entry at a place of its list. Its type is not asked, nor the shape of its SID: the scan of
 // the list did that. No entry where it does not fit.
+// kept: beside `ace_at`, for speed: docs/DECISIONS.md, entry 46.
 pub fn ace_by_length(l: &[u8], at: usize) -> Option<Ace>
     ensures value { result ≡ stands (ace_by_length l.now at) }
     ensures inside { IfSome result (λ a.

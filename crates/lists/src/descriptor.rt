@@ -1,8 +1,8 @@
 // The self-relative descriptor: its shape, and its parts as the very bytes lent.
-ghost use Rattle.std.specs.Prelude.{◌≡◌, length, Ok, IfOk};
+ghost use Rattle.std.specs.Prelude.{◌≡◌, length, Ok, IfOk, leb};
 ghost use Rattle.lists.specs.Descriptor.{Piece, heading, sid_piece, acl_piece, judged, parts_of};
 ghost use Rattle.lists.specs.Descriptor.{owner_of, group_of, sacl_of, dacl_of, part_in};
-ghost use Rattle.lists.specs.Handed.{piece_result, place_in, alien_in, handed, Within, bytes_of};
+ghost use Rattle.lists.specs.Handed.{piece_result, place_in, alien_in, handed, Within};
 
 use crate::acl::{acl_end, scan_entries};
 use conditions::Fault;
@@ -17,6 +17,7 @@ pub enum Refusal {
 }
 
 // From a place up to another; empty where both are 0.
+// kept: 0 and 0 for an absent part: it is an empty part then (document 01), and `Parts` says so.
 #[derive(Clone, Copy)]
 pub struct Extent {
     pub from: usize,
@@ -33,25 +34,25 @@ impl Extent {
         }
         &d[self.from..self.to]
     }
+
+    // Whether it holds no byte.
+    pub fn is_empty(self) -> bool
+        ensures { result ≡ leb self.to self.from }
+    {
+        self.to <= self.from
+    }
 }
 
 // Where each part of a descriptor stands. `null`: the DACL is absent.
 #[derive(Clone, Copy)]
 pub struct Descriptor {
+    // kept: a flag beside `dacl`: an absent part is an empty slice (document 01), and a null DACL is
+    // walked as a list without entries; `Parts` of specs has the flag.
     pub null: bool,
     pub owner: Extent,
     pub group: Extent,
     pub sacl: Extent,
     pub dacl: Extent,
-}
-
-// One of the four parts.
-#[derive(Clone, Copy)]
-enum Which {
-    Owner,
-    Group,
-    Sacl,
-    Dacl,
 }
 
 // A part that an offset names: where it stands, and whether it is a list with something foreign.
@@ -65,13 +66,7 @@ struct Found {
 fn heading(d: &[u8]) -> bool
     ensures { result ≡ heading d.now }
 {
-    if d.len() < 20 {
-        return false;
-    }
-    if 65535 < d.len() {
-        return false;
-    }
-    if d[0] != 1 {
+    if d.len() < 20 || 65535 < d.len() || d[0] != 1 {
         return false;
     }
     base::u16_at(d, 2) & 0x8000 != 0
@@ -97,6 +92,7 @@ fn sid_piece(d: &[u8], off: usize) -> Result<Option<Found>, Refusal>
 }
 
 // The list that an offset names, where it is to be followed; deep in a DACL.
+// kept: `followed` and `deep`, two truths: the definition `acl_piece` takes both.
 fn acl_piece(d: &[u8], followed: bool, at: usize, deep: bool) -> Result<Option<Found>, Refusal>
     ensures { result ≡ piece_result (acl_piece deep d.now followed at) }
 {
@@ -181,47 +177,48 @@ pub fn read(d: &[u8]) -> Result<Descriptor, Refusal>
 }
 
 // The bytes of an extent, or an empty part where it does not lie inside.
+// kept: beside `Extent::bytes`: docs/PAGE.md names `part`.
 pub fn part(d: &[u8], x: Extent) -> &[u8]
     ensures { result.now ≡ part_in d.now x.from x.to }
 {
     x.bytes(d)
 }
 
-// The bytes of one part; none where it is absent or the read refused.
-fn bytes(d: &[u8], which: Which) -> &[u8]
-    ensures { result.now ≡ bytes_of which d.now }
-{
-    let Ok(p) = read(d) else {
-        return &d[0..0];
-    };
-    match which {
-        Which::Owner => p.owner.bytes(d),
-        Which::Group => p.group.bytes(d),
-        Which::Sacl => p.sacl.bytes(d),
-        Which::Dacl => p.dacl.bytes(d),
-    }
-}
-
+// The bytes of the owner; none where the read refused. So with the three others.
+// kept: four that are alike: one over the part takes an enum with its match, or a closure with its
+// contract, and is longer than these.
 pub fn owner(d: &[u8]) -> &[u8]
     ensures { result.now ≡ owner_of d.now }
 {
-    bytes(d, Which::Owner)
+    match read(d) {
+        Ok(p) => p.owner.bytes(d),
+        Err(_) => &d[0..0],
+    }
 }
 
 pub fn group(d: &[u8]) -> &[u8]
     ensures { result.now ≡ group_of d.now }
 {
-    bytes(d, Which::Group)
+    match read(d) {
+        Ok(p) => p.group.bytes(d),
+        Err(_) => &d[0..0],
+    }
 }
 
 pub fn sacl(d: &[u8]) -> &[u8]
     ensures { result.now ≡ sacl_of d.now }
 {
-    bytes(d, Which::Sacl)
+    match read(d) {
+        Ok(p) => p.sacl.bytes(d),
+        Err(_) => &d[0..0],
+    }
 }
 
 pub fn dacl(d: &[u8]) -> &[u8]
     ensures { result.now ≡ dacl_of d.now }
 {
-    bytes(d, Which::Dacl)
+    match read(d) {
+        Ok(p) => p.dacl.bytes(d),
+        Err(_) => &d[0..0],
+    }
 }

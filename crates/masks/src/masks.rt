@@ -1,6 +1,4 @@
 // The two kinds and their rights: generic bits mapped, entries cut, questions judged.
-// kept: a kind is a number, not an enum: `asked` of the C interface is asked for every kind, also for
-// one that is refused (`pirasteh_why`), and answers by the file's rights there.
 ghost use Rattle.std.specs.Prelude.{◌≡◌, cond};
 ghost use Rattle.masks.specs.KindsAndMasks.{right, all_bits, mapped, entry_mask};
 ghost use Rattle.masks.specs.KindsAndMasks.{legal, explicit, asked};
@@ -24,7 +22,7 @@ struct KindRights {
 }
 
 impl KindRights {
-    // The row of a kind: 0 file, 1 key.
+    // The rights of a kind: row 0 for a file, 1 for a key.
     #[tactic(auto, unfolding(crate::specs::KindsAndMasks::right))]
     fn of(kind: u32) -> KindRights
         ensures read { result.read.0 ≡ right kind 0 }
@@ -51,6 +49,8 @@ pub fn when(holds: bool, right: Rights) -> Rights
 }
 
 // The kind's all bits.
+// kept: a kind is a number, here and below: `all_bits`, `mapped` and `asked` are public and answer
+// for every number, and an enum would be a narrower type.
 pub fn all_bits(kind: u32) -> Rights
     ensures { result.0 ≡ all_bits kind }
 {

@@ -21,16 +21,20 @@ impl Tally {
     pub const GENERIC_ALL: Rights = Rights(0x10000000);
 
     pub const NOT_GENERIC: Rights = Rights(0x0FFFFFFF);
+
     // System security is asked only when named; the other bit asks for the maximum.
     pub const SYSTEM_SECURITY: Rights = Rights(0x01000000);
 
     pub const MAXIMUM: Rights = Rights(0x02000000);
+
     // What a question may ask of any kind: the generic bits and the two above.
     pub const SPECIAL: Rights = Rights(0xF3000000);
+
     // The owner's two rights, and the right that SeTakeOwnership adds.
     pub const OWNERS: Rights = Rights(0x60000);
 
     pub const TAKE_OWNERSHIP: Rights = Rights(0x80000);
+
     // No bit, and every bit.
     pub const NONE: Rights = Rights(0);
 

@@ -7,6 +7,8 @@ use seats::{Seat, first_seat, key, last, seat_at};
 
 // The cell of a seat: where its SID stands, the number of the next seat of its chain, how it
 // matches, and the SID's last word.
+// kept: parts of one number by arithmetic: no heap, so seats lie on the stack at eight bytes each, and
+// `cell_of` of specs says what stands where.
 fn cell(x: Seat, next: u16, word: u32) -> u64
     requires { x.from ≤ x.to }
     ensures { result ≡ cell_of x.from x.to next x.allows x.denies word }
@@ -20,6 +22,8 @@ fn cell(x: Seat, next: u16, word: u32) -> u64
 }
 
 // Chains the crowd at a place of a listing: each seat goes ahead of its chain.
+// kept: two tables side by side, and `attrs` a truth: no heap, so both are lent by the caller, and
+// `chains_of` of specs speaks of the two and asks by the truth.
 pub fn chain_crowd(
     listing: &[u8],
     at: usize,

@@ -5,7 +5,7 @@ ghost use Rattle.passes.specs.Crowds.{shown_in};
 ghost use Rattle.passes.specs.Matching.{among, side, matches, nobody, hit_of, hits_of};
 ghost use Rattle.passes.specs.OneWalk.{virtual_matches};
 
-use crate::search::{head, is_near, next, sits};
+use crate::search::{head, is_near, next, search_row, sits};
 use seats::last;
 
 // How an identity stands in for a virtual one, for allow and for deny.
@@ -62,8 +62,7 @@ fn search_chain(listing: &[u8], seats: &[u64], first: usize, w: &[u8], allow: bo
 {
     let word = last(w);
     let mut n = first;
-    let mut down = false;
-    // kept: a chain leaps, so no range goes along it.
+    // kept: a chain leaps, so no range goes along it. `pass` has the same loop in its own.
     while n != 0 {
         let x = seats[n];
         if sits(listing, x, word, w, allow) {
@@ -71,13 +70,9 @@ fn search_chain(listing: &[u8], seats: &[u64], first: usize, w: &[u8], allow: bo
         }
         let after = next(x);
         if is_near(n, after) {
-            down = true;
+            return search_row(listing, seats, n - 1, w, allow);
         }
-        if down {
-            n -= 1;
-        } else {
-            n = after;
-        }
+        n = after;
     }
     false
 }
@@ -127,7 +122,7 @@ impl<'a> Crowd<'a> {
     fn hit(self, w: &[u8]) -> Hit
         ensures { result ≡ hit_of (shown_in self.entry) w.now }
     {
-        if w.len() == 0 || sids::is_virtual(w) {
+        if w.is_empty() || sids::is_virtual(w) {
             return Hit::NOBODY;
         }
         let n = head(self.heads, self.seats, w);

@@ -10,8 +10,8 @@ ghost use Rattle.passes.specs.Chains.{near, row, head_of};
 use seats::{key, last};
 
 // The number of the first seat of a SID's chain; 0 where there is none.
-// kept: 0 and no Option, here and in `next`, since cells and heads hold it so and no heap takes more:
-// `chains_of` and `head_of` of specs say it.
+// kept: 0 and no Option: heads and cells hold a number, 0 for no seat (`chains_of`), and `head_of` says
+// it so; no plainer, since each caller tests it once, and a search stops at the same 0 at a chain's end.
 pub(crate) fn head(heads: &[u16; 512], seats: &[u64], w: &[u8]) -> usize
     ensures value { result ≡ head_of heads.now seats.now w.now }
     ensures upper_bound { result ≤ length seats.now - 1 }
@@ -25,6 +25,8 @@ pub(crate) fn head(heads: &[u16; 512], seats: &[u64], w: &[u8]) -> usize
 }
 
 // The number of the next seat of a chain; 0 at its end.
+// kept: 0 and no Option, and parts of a cell by division, here and below: no heap, so seats lie on the
+// stack at eight bytes each, and `cell_of` and `next_in` say what stands where.
 pub(crate) fn next(x: u64) -> usize
     ensures { (result ≡ next_in x) × (result < 512) }
 {
@@ -54,7 +56,7 @@ fn ready(x: u64, allow: bool) -> bool
 fn ends(x: u64, word: u32) -> bool
     ensures { result ≡ eqb (last_in x) word }
 {
-    x / 4294967296 == word as u64
+    x / 4294967296 == u64::from(word)
 }
 
 // Whether the identity in a cell of the listing is the SID, and matches. The SID's last word, which
@@ -89,6 +91,8 @@ fn one_ends(seats: &[u64], n: usize, word: u32) -> bool
 
 // Whether one of the seats from a number down is that of the SID, and matches. While none of four
 // has its last word they are passed at once.
+// kept: tables, SID and side one by one, here and in `sits`: no plainer, a crowd has hits also, of which
+// these ask nothing.
 pub(crate) fn search_row(listing: &[u8], seats: &[u64], from: usize, w: &[u8], allow: bool) -> bool
     requires { from ≤ length seats.now - 1 }
     ensures { result ≡ among allow (row seats.now listing.now from)

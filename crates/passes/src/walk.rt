@@ -102,6 +102,8 @@ impl Crowd<'_> {
                 continue 'entries;
             }
             // "The search through a token stops at the first listing that matches."
+            // kept: the loop of `search_chain` again, since the rules want it here, nested in the
+            // pass, with a value that it yields by `break`.
             let word = last(who);
             let mut n = first;
             let hit = 'search: loop {

@@ -29,11 +29,14 @@ impl Tests for Crowd<'_> {
 
 impl Crowd<'_> {
     // Whether every SID of a list is a member, or some SID is.
+    // kept: `every` is a truth, by which `meets` of specs asks.
     fn meets(self, c: &[u8], every: bool) -> bool
         ensures { result ≡ meets (matches true (shown_in self.entry) self.entry.hits)
             every (sids_of c.now) }
     {
         let mut at: usize = 0;
+        // kept: where a literal ends the next begins, so no range goes along; no iterator is plainer for
+        // this one loop, which asks only for an end.
         while at < c.len() {
             let Some(e) = literal_end(c, at) else {
                 return every;
@@ -55,6 +58,6 @@ impl Crowd<'_> {
         ensures { result ≡ admits (matches true (shown_in self.entry) self.entry.hits)
             c.now }
     {
-        c.len() == 0 || weigh(c, &self).unwrap_or(false)
+        c.is_empty() || weigh(c, &self).unwrap_or(false)
     }
 }

@@ -1,7 +1,5 @@
 // The functions that C and Rust call; `pirasteh_c` exports them. Each hands its arguments to the
 // check or to a converter, and the answer to the numbers lent for it; nothing is decided here.
-// kept: a question's parts one by one and lent numbers, in all eight functions: they are the C
-// interface.
 #![tactic(auto)]
 
 ghost use Rattle.std.specs.Prelude.{◌≡◌, length};
@@ -19,6 +17,7 @@ use answers::Answer;
 use lists::Rights;
 
 // The parts of an answer: the status, and the rest in the lent numbers.
+// kept: numbers, where the functions below have them: the C interface.
 fn tell(a: Answer, granted: &mut u32, allowed: &mut u32, staged: &mut u32) -> u32
     ensures { Told a result granted.new allowed.new staged.new }
 {
@@ -30,6 +29,7 @@ fn tell(a: Answer, granted: &mut u32, allowed: &mut u32, staged: &mut u32) -> u3
 
 // The answer to a question: the status, and in the lent numbers the granted mask, allowed (1 or 0)
 // and the staging flag (1 or 0); all three are 0 on refusal.
+// kept: the parts one by one and lent numbers: the C interface.
 pub fn pirasteh_check(
     kind: u32,
     mask: u32,
@@ -62,6 +62,7 @@ pub fn pirasteh_check(
 }
 
 // The answer to a question file, in the same way.
+// kept: lent numbers: the C interface.
 pub fn pirasteh_question(file: &[u8], granted: &mut u32, allowed: &mut u32, staged: &mut u32) -> u32
     ensures { Told (file_answer file.now) result
         granted.new allowed.new staged.new }
@@ -70,6 +71,7 @@ pub fn pirasteh_question(file: &[u8], granted: &mut u32, allowed: &mut u32, stag
 }
 
 // The three masks of an answer that come before the granted one, in the lent numbers.
+// kept: lent numbers: the C interface.
 fn show(a: Answer, normal: &mut u32, confined: &mut u32, ruled: &mut u32)
     ensures { Shown a normal.new confined.new ruled.new }
 {
@@ -79,6 +81,7 @@ fn show(a: Answer, normal: &mut u32, confined: &mut u32, ruled: &mut u32)
 }
 
 // A number where a question is answered, and 0 where it is refused.
+// kept: a status and 0: the C interface.
 fn if_answered(status: u32, n: u32) -> u32
     ensures { result ≡ if_answered status n }
 {
@@ -88,6 +91,7 @@ fn if_answered(status: u32, n: u32) -> u32
 // The answer to a question with its masks: beside what `pirasteh_check` says, in the lent numbers
 // the bits asked for, and of these those after normal evaluation, after confinement and after
 // policy; all are 0 on refusal.
+// kept: the parts one by one and lent numbers: the C interface.
 pub fn pirasteh_why(
     kind: u32,
     mask: u32,
@@ -128,6 +132,7 @@ pub fn pirasteh_why(
 }
 
 // The answer to a question file with its masks, in the same way, and its kind.
+// kept: lent numbers: the C interface.
 pub fn pirasteh_why_question(
     file: &[u8],
     kind: &mut u32,
@@ -156,6 +161,7 @@ pub fn pirasteh_why_question(
 
 // The answer to a question, in the same way as `pirasteh_check`, and its trail: 11 where `trail` is
 // too short for that. In `written` how many bytes; `trail` is unchanged past them, and on refusal.
+// kept: the parts one by one, a lent buffer with its length and lent numbers: the C interface.
 pub fn pirasteh_trail(
     kind: u32,
     mask: u32,
@@ -193,6 +199,7 @@ pub fn pirasteh_trail(
 }
 
 // The answer to a question file and its trail, in the same way.
+// kept: a lent buffer with its length and lent numbers: the C interface.
 pub fn pirasteh_trail_question(
     file: &[u8],
     trail: &mut [u8],
@@ -211,6 +218,7 @@ pub fn pirasteh_trail_question(
 }
 
 // A conversion's status, and in `written` its length; 0 on refusal.
+// kept: a status and 0: the C interface.
 fn convert(c: Result<usize, tokens::Refusal>, written: &mut usize) -> u32
     ensures { converted_by c ≡ record { status = result; length = written.new } }
 {
@@ -228,6 +236,7 @@ fn convert(c: Result<usize, tokens::Refusal>, written: &mut usize) -> u32
 
 // The flat listing of a packed token record, written to `out`: the status, and in `written` how
 // many bytes. `out` is unchanged past them, and on refusal.
+// kept: a lent buffer with its length: the C interface.
 pub fn pirasteh_list(token: &[u8], out: &mut [u8], written: &mut usize) -> u32
     ensures { Handed (fitted (length out.old) (as_listing token.now))
         out.old out.new written.new result }
@@ -236,6 +245,7 @@ pub fn pirasteh_list(token: &[u8], out: &mut [u8], written: &mut usize) -> u32
 }
 
 // The packed token record of a flat listing, in the same way.
+// kept: a lent buffer with its length: the C interface.
 pub fn pirasteh_pack(listing: &[u8], out: &mut [u8], written: &mut usize) -> u32
     ensures { Handed (fitted (length out.old) (as_record listing.now))
         out.old out.new written.new result }

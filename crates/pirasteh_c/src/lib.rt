@@ -13,6 +13,7 @@ ghost use Rattle.pirasteh.specs.Followed.{Followed};
 
 // The answer to a question: the status, and in the lent numbers the granted mask, allowed (1 or 0)
 // and the staging flag (1 or 0); all three are 0 on refusal.
+// kept: beside the function of this name in `pirasteh`: the C interface.
 #[unsafe(no_mangle)]
 pub extern "C" fn pirasteh_check(
     kind: u32,
@@ -40,6 +41,7 @@ pub extern "C" fn pirasteh_check(
 }
 
 // The answer to a question file, in the same way.
+// kept: beside the function of this name in `pirasteh`: the C interface.
 #[unsafe(no_mangle)]
 pub extern "C" fn pirasteh_question(
     file: &[u8],
@@ -56,6 +58,7 @@ pub extern "C" fn pirasteh_question(
 // The answer to a question with its masks: beside what `pirasteh_check` says, in the lent numbers
 // the bits asked for, and of these those after normal evaluation, after confinement and after
 // policy; all are 0 on refusal.
+// kept: beside the function of this name in `pirasteh`: the C interface.
 #[unsafe(no_mangle)]
 pub extern "C" fn pirasteh_why(
     kind: u32,
@@ -89,6 +92,7 @@ pub extern "C" fn pirasteh_why(
 }
 
 // The answer to a question file with its masks, in the same way, and its kind.
+// kept: beside the function of this name in `pirasteh`: the C interface.
 #[unsafe(no_mangle)]
 pub extern "C" fn pirasteh_why_question(
     file: &[u8],
@@ -115,6 +119,7 @@ pub extern "C" fn pirasteh_why_question(
 
 // The answer to a question, in the same way as `pirasteh_check`, and its trail: 11 where `trail` is
 // too short for that. In `written` how many bytes; `trail` is unchanged past them, and on refusal.
+// kept: beside the function of this name in `pirasteh`: the C interface.
 #[unsafe(no_mangle)]
 pub extern "C" fn pirasteh_trail(
     kind: u32,
@@ -145,6 +150,7 @@ pub extern "C" fn pirasteh_trail(
 }
 
 // The answer to a question file and its trail, in the same way.
+// kept: beside the function of this name in `pirasteh`: the C interface.
 #[unsafe(no_mangle)]
 pub extern "C" fn pirasteh_trail_question(
     file: &[u8],
@@ -163,6 +169,7 @@ pub extern "C" fn pirasteh_trail_question(
 
 // The flat listing of a packed token record, written to `out`: the status, and in `written` how
 // many bytes. `out` is unchanged past them, and on refusal.
+// kept: beside the function of this name in `pirasteh`: the C interface.
 #[unsafe(no_mangle)]
 pub extern "C" fn pirasteh_list(token: &[u8], out: &mut [u8], written: &mut usize) -> u32
     ensures { Handed (fitted (length out.old) (as_listing token.now))
@@ -172,6 +179,7 @@ pub extern "C" fn pirasteh_list(token: &[u8], out: &mut [u8], written: &mut usiz
 }
 
 // The packed token record of a flat listing, in the same way.
+// kept: beside the function of this name in `pirasteh`: the C interface.
 #[unsafe(no_mangle)]
 pub extern "C" fn pirasteh_pack(listing: &[u8], out: &mut [u8], written: &mut usize) -> u32
     ensures { Handed (fitted (length out.old) (as_record listing.now))

@@ -7,8 +7,10 @@ use crate::sections::{acl_section, applies_section, bytes_of, maybe_acl, section
 use conditions::Fault;
 use lists::Extent;
 
-// A rule: the place after it, whether it holds what is not read in this edition, and where its five
-// sections stand.
+// A rule: the place after it, whether it was found to hold what is not read in this edition, and where
+// its five sections stand. A rule that is found by lengths alone was not asked: `unread` is false.
+// kept: `unread` false where it was not asked, and places without their policy: `Rule` stands so in
+// `rule_at` and `rule_by_lengths` of specs; `Placed` ties it to a policy in as many words as a holder.
 #[derive(Clone, Copy)]
 pub struct Rule {
     pub next: usize,

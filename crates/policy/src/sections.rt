@@ -25,6 +25,8 @@ pub(crate) fn section_at(s: &[u8], at: usize) -> Option<Extent>
 }
 
 // The bytes of a section.
+// kept: each crate cuts its own parts: a public function may ask nothing of its caller, and this asks
+// that the section lies in the policy.
 pub(crate) fn bytes_of(s: &[u8], x: Extent) -> &[u8]
     requires { Lies s.now x }
     ensures { result.now ≡ bytes_of s.now x }
@@ -33,6 +35,7 @@ pub(crate) fn bytes_of(s: &[u8], x: Extent) -> &[u8]
 }
 
 // What the entries of an ACL section are. "An ACL section's length equals its ACL's size."
+// kept: `deep` is a truth, here and below, as in the definitions `acl_section` and `maybe_acl`.
 pub(crate) fn acl_section(l: &[u8], deep: bool) -> Result<(), Fault>
     ensures { result ≡ scan_result (acl_section deep l.now) }
 {

@@ -42,6 +42,7 @@ pub struct Rules<'a> {
 impl<'a> Rules<'a> {
     ghost use Rattle.policy.specs.Walking.{rules_left};
 
+    // All rules of a policy: as many as its heading says, from the place after it.
     pub fn of(policy: &'a [u8]) -> Rules<'a>
         ensures left { rules_left result ≡ rules_by_lengths policy.now }
         ensures policy { result.policy.now ≡ policy.now }

@@ -1,6 +1,6 @@
 // The question file: kind, mask, then token, self identity, descriptor and policy, each with a
 // length before it. What the parts hold is judged by the check alone.
-ghost use Rattle.std.specs.Prelude.{◌≡◌, ◌≤◌, length, IfSome};
+ghost use Rattle.std.specs.Prelude.{◌≡◌, ◌≤◌, length, IfSome, IfOk};
 ghost use Rattle.questions.specs.QuestionFile.{blob_at, question_of, file_answer, file_report};
 ghost use Rattle.questions.specs.QuestionFile.{file_desires};
 ghost use Rattle.questions.specs.Blobs.{held_at, held_in};
@@ -25,7 +25,7 @@ pub struct Desired {
     pub mask: Rights,
 }
 
-// The part whose length stands at `at`; none where it runs past the end.
+// The part whose length stands at `at`; none where no number stands there, or where it runs past the end.
 fn blob_at(s: &[u8], at: usize) -> Option<Blob>
     ensures value { blob_at s.now at ≡ held_at result }
     ensures within { IfSome result (λ b. b.next ≤ length s.now) }
@@ -70,8 +70,9 @@ fn question_in(s: &[u8]) -> Option<Question>
 // or longer than 65,536 bytes.
 // kept: `lent` beside `out`, as in `access::reported`, to which both are handed.
 fn file_report(s: &[u8], out: &mut [u8], lent: bool) -> Result<Traced, Refusal>
-    ensures { Lent (in_buffer (length out.old) (lending lent
+    ensures report { Lent (in_buffer (length out.old) (lending lent
         (file_report s.now))) out.old out.new (handed result) }
+    ensures accepted { IfOk result (λ t. t.answer.status ≡ 0) }
 {
     if 65536 < s.len() {
         return Err(Refusal::FileMisshapen);

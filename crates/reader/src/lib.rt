@@ -24,7 +24,7 @@ fn end(list: &[u8]) -> usize
     ensures { result ≡ end_from list.now (u16_at list.now 4) 8 }
 {
     let mut p: usize = 8;
-    for _k in 0..base::u16_at(list, 4) {
+    for _ in 0..base::u16_at(list, 4) {
         let Some(a) = lists::ace_at(list, p) else {
             return p;
         };

@@ -1,15 +1,16 @@
 -- The head of a SID: the byte 1, its count and its authority, highest byte first. Where the authority is one byte, the eight bytes are
--- those of one number, lowest first. A part of a buffer that is written at once (put_part), the last six bytes of eight (big_last).
+-- those of one number, lowest first. A part of a buffer that is written at once (put_part), the last six bytes of eight (big_last),
+-- the first of eight (little_first).
 -- Assumes nothing.
-use Prim.Native.Nat.{ℕ, ◌+◌, ◌*◌, ◌/◌, ◌<◌, ◌≤◌}
-use mathlib.Core.Path.{◌≡◌}
+use Prim.Native.Nat.{ℕ, zero, suc, ◌+◌, ◌*◌, ◌/◌, ◌%◌, ◌^◌, ◌<◌, ◌≤◌}
+use mathlib.Core.Path.{◌≡◌, refl, sym, ap, ◌∙◌}
 use mathlib.Core.List.{List, [], ◌∷◌, append_assoc}
-use native.Mathlib.Nat.{div-div-eq-div-mul}
+use native.Mathlib.Nat.{div-div-eq-div-mul, div-one, pow-suc}
 use native.Mathlib.Omega.{arith}
 use borrow.Rule.Slice.PartMut.{put_mid}
-use lib.ListN.{length, drop}
+use lib.ListN.{length, take, drop}
 use lib.Seq.{sets, sets-eq, drop-drop}
-use Rattle.std.specs.Int.{w64, to_be_bytes}
+use Rattle.std.specs.Int.{w64, byte_at, bytes_low_first, to_be_bytes, to_le_bytes}
 use Rattle.base.specs.Bytes.{little, big}
 
 -- eight bytes in a row, byte by byte
@@ -47,3 +48,19 @@ big_last v =
     let e4 : v / 16777216 / 256 ≡ v / 4294967296 = div-div-eq-div-mul v 16777216 256 in
     let e5 : v / 4294967296 / 256 ≡ v / 1099511627776 = div-div-eq-div-mul v 4294967296 256 in
     rw (e2, e3, e4, e5)
+
+byte : (i v : ℕ) → byte_at i v ≡ v / 256 ^ i % 256
+byte zero v = ap (λ (y : ℕ). y % 256) (sym (div-one v))
+byte (suc i) v = refl
+
+low_first : (i k n v : ℕ) → n ≤ k → take n (bytes_low_first i k v) ≡ little n (v / 256 ^ i)
+unfolding little
+low_first i k zero v h = refl
+low_first i zero (suc n) v h = absurd (omega arith)
+low_first i (suc k) (suc n) v h =
+    let e : v / 256 ^ suc i ≡ v / 256 ^ i / 256 = ap (λ (p : ℕ). v / p) (pow-suc 256 i) ∙ sym (div-div-eq-div-mul v (256 ^ i) 256) in
+    rw (byte i v, low_first (suc i) k n v (omega arith), e)
+
+-- the first of a number's eight bytes, lowest first
+pub little_first : (n v : ℕ) → n ≤ 8 → take n (to_le_bytes w64 v) ≡ little n v
+little_first n v h = low_first 0 8 n v h ∙ ap (little n) (div-one v)

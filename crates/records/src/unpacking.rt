@@ -27,16 +27,16 @@ pub struct Step {
 
 // The length of the listing at the front of a buffer. Where clean, its token keeps the token rules
 // and is not confined; where not, nothing is said.
+// kept: a length beside a lent buffer, since `Unpacked` speaks of the whole buffer.
 #[derive(Clone, Copy)]
 pub struct Filled {
     pub length: usize,
     pub clean: bool,
 }
 
-// kept: a struct of `out` and `o` is no plainer: Roomy and Within speak of the places in `s` too; and
-// `attrs` is a truth, for `member_copied` of specs asks it.
-
 // The n words of an identity from place `at`, four bytes each. Of `clean` nothing is said.
+// kept: a struct of `out` and `o`, here and below, is no plainer: Roomy and Within speak of the places
+// in `s` too.
 fn unpack_words(s: &[u8], at: usize, n: usize, out: &mut [u8], o: usize) -> Option<Step>
     requires { Roomy (length out.old) o (length s.now) at (4 * n) }
     ensures out_after { left result out.new ≡ outcome (copied word_at n s.now at) out.old o }
@@ -44,6 +44,7 @@ fn unpack_words(s: &[u8], at: usize, n: usize, out: &mut [u8], o: usize) -> Opti
 {
     let mut next = at;
     let mut to = o;
+    // kept: `next` goes along by hand too, and steps of four would say `o + 4 * n` twice.
     for _ in 0..n {
         let w = base::word32(s, next)?;
         put_little(out, to, 4, w.value);
@@ -97,10 +98,11 @@ fn put_attributes(out: &mut [u8], o: usize, word: Attributes)
     requires { o + 4 ≤ length out.old }
     ensures { out.new ≡ sets out.old o (little 4 word.0) }
 {
-    put_little(out, o, 4, word.0 as u64);
+    put_little(out, o, 4, u64::from(word.0));
 }
 
 // A member: an identity and, where `attrs`, its attribute word.
+// kept: `attrs` is a truth, here and below, for `member_copied` of specs asks it.
 fn unpack_member(s: &[u8], at: usize, attrs: bool, out: &mut [u8], o: usize) -> Option<Step>
     requires { Roomy (length out.old) o (length s.now) at (members_room attrs 1) }
     ensures out_after { left result out.new ≡ outcome (member_copied attrs s.now at) out.old o }

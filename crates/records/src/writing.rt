@@ -5,14 +5,10 @@ ghost use Rattle.base.specs.Bytes.{little, big};
 
 // Writes the n lowest bytes of a number from place `o`, lowest first.
 pub(crate) fn put_little(out: &mut [u8], o: usize, n: usize, v: u64)
-    requires { o + n ≤ length out.old }
+    requires { (o + n ≤ length out.old) × (n ≤ 8) }
     ensures { out.new ≡ sets out.old o (little n v) }
 {
-    let mut rest = v;
-    for to in o..o + n {
-        out[to] = (rest % 256) as u8;
-        rest /= 256;
-    }
+    out[o..o + n].copy_from_slice(&v.to_le_bytes()[..n]);
 }
 
 // Writes the six lowest bytes of a number from place `o`, highest first.

@@ -4,6 +4,7 @@ ghost use Rattle.seats.specs.Key.{mixed, spread, key_of, last_of};
 
 // All words of a SID in one number, two at a time. Most SIDs have one word, or five: for these
 // there is no loop.
+// kept: 0 and no Option where it is too short: it cannot fail, and `key_of` of specs reads so.
 fn mixed(w: &[u8]) -> u64
     ensures { result ≡ mixed w.now }
 {
@@ -44,6 +45,7 @@ pub fn key(w: &[u8]) -> usize
 }
 
 // The last word of a SID.
+// kept: 0 and no Option where it is too short: it cannot fail, and `last_of` of specs reads so.
 pub fn last(w: &[u8]) -> u32
     ensures { result ≡ last_of w.now }
 {

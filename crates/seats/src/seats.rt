@@ -1,5 +1,4 @@
 // A token's flat listing, read in place, seat by seat.
-// kept: `attrs`, a truth, says that attribute words stand behind members, for `seat_at` of specs asks it.
 ghost use Rattle.std.specs.Prelude.{◌≡◌, ◌≤◌, length, IfSome};
 ghost use Rattle.seats.specs.Seats.{allow_word, deny_word, onward};
 ghost use Rattle.seats.specs.Seats.{first_seat, seat_at, seat_found, SeatLies};
@@ -61,6 +60,7 @@ pub fn first_seat(s: &[u8], at: usize) -> Option<Seat>
 
 // The member at a place: with an attribute word after it where `attrs`, else for both. None where no
 // SID stands.
+// kept: `attrs`, a truth: the definition `seat_at` asks it.
 pub fn seat_at(s: &[u8], at: usize, attrs: bool) -> Option<Seat>
     ensures value { result ≡ seat_found (seat_at attrs s.now at) }
     ensures seat_lies { IfSome result (λ x. SeatLies (length s.now) x) }

@@ -79,6 +79,11 @@ pub struct Lines<'a>(pub &'a [u8]);
 impl<'a> Iterator for Lines<'a> {
     type Item = (&'a [u8], &'a [u8]);
 
+    ghost next_gives = { λ old r new. MatchOption r (length old.0.now ≡ 0)
+        (λ p. (p.0.now ≡ take (next_line old.0.now 0) old.0.now)
+        × (p.1.now ≡ drop (next_line old.0.now 0) old.0.now)
+        × (new.0.now ≡ p.1.now)) };
+
     ghost remaining = { λ s. at_most (length s.0.now) };
 
     fn next(&mut self) -> Option<(&'a [u8], &'a [u8])> {
@@ -110,7 +115,7 @@ fn byte_of(high: u8, low: u8) -> Option<u8>
 
 // Puts the bytes that a text has in pairs of digits, up to the byte `stop`, at the start of a
 // buffer, and answers how many they are. They have to leave room in it.
-// kept: a count, and not the part of the buffer, since `out_after` states what the buffer then has
+// kept: a count, and not the part of the buffer, since `out_after` states what the buffer then has.
 pub fn bytes_of(text: &[u8], stop: u8, out: &mut [u8]) -> Option<usize>
     ensures value { result ≡ counted (hex_bytes text.now stop out.old).answer }
     ensures out_after { out.new
@@ -129,4 +134,22 @@ pub fn bytes_of(text: &[u8], stop: u8, out: &mut [u8]) -> Option<usize>
         }
     }
     None
+}
+
+#[cfg(test)]
+mod tests {
+    use super::*;
+    use std::fs;
+    use std::test::Fail;
+
+    #[test]
+    fn reads_a_file_of_data(rt: HostRuntime) -> Result<(), Fail> {
+        fs::write(&rt, "testkit_reads.txt", b"ab\ncd".as_slice())?;
+        let all = read(&rt, b"testkit_reads.txt", 6);
+        let none = read(&rt, b"testkit_reads.txt", 5);
+        fs::remove_file(&rt, "testkit_reads.txt")?;
+        assert_eq!(rt; all?.as_slice(), b"ab\ncd".as_slice());
+        assert_eq!(rt; none?.as_slice(), b"".as_slice());
+        Ok(())
+    }
 }

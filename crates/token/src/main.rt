@@ -20,6 +20,7 @@ enum Task {
 }
 
 // An argument that does not fit is longer than each of the words.
+// kept: `ask` has words of its own, so one function for both would take a table of them.
 fn wanted(rt: &impl Env) -> Option<Task> {
     let mut word = [0u8; 16];
     let n = rt.arg(1, &mut word).ok()?;
@@ -69,6 +70,7 @@ const LIMIT: u64 = 65537;
 
 // The task of the file that the second argument names.
 fn run(rt: &HostRuntime, t: Task) -> io::Result<()> {
+    // kept: a buffer of a fixed size: it holds the longest name there is, and it cannot fail.
     let mut path = [0u8; 4096];
     let Some(n) = files::told(rt, b"token", files::name(rt, 2, &mut path))? else {
         return Ok(());

@@ -12,6 +12,7 @@ use crate::judging::judge;
 use crate::refusal::Refusal;
 
 // How long the listing at the front of a room is, and the place of its confinement identity.
+// kept: a length beside a lent room, since `room_after` speaks of the whole room.
 #[derive(Clone, Copy)]
 pub struct Listed {
     pub length: usize,
@@ -76,6 +77,7 @@ pub fn to_listing(s: &[u8], out: &mut [u8]) -> Result<usize, Refusal>
     ensures value { converted_by result ≡ answered (fitted (length out.old) (as_listing s.now)) }
     ensures out_after { out.new ≡ sets out.old 0 (fitted (length out.old) (as_listing s.now)).bytes }
 {
+    // kept: access::answering has the same four sizes, since a const argument is a literal.
     match s.len() {
         ..=64 => listed_in_room::<256>(s, out),
         65..=512 => listed_in_room::<2048>(s, out),

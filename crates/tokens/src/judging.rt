@@ -12,8 +12,6 @@ ghost use Rattle.tokens.specs.Judging.{confinement_breaks, rest_breaks};
 use crate::refusal::Refusal;
 
 // The place after what was read, and whether it breaks a token rule.
-// kept: that a place lies in the listing is said of each walk, since a place that held its listing
-// would be longer to make and to say.
 #[derive(Clone, Copy)]
 pub struct Walk {
     pub next: usize,
@@ -46,6 +44,8 @@ fn is_restricted(s: &[u8], from: usize, to: usize) -> bool
 }
 
 // As many groups from `at`.
+// kept: that a place lies in the listing is said of each walk, since a place that held its listing
+// would be longer to make and to say.
 fn judge_groups(s: &[u8], at: usize, n: u32) -> Option<Walk>
     requires { at ≤ length s.now }
     ensures result_value { walked result ≡ told virtual_group (many (group_at flat_reader) n s.now at) }
@@ -65,6 +65,7 @@ fn judge_groups(s: &[u8], at: usize, n: u32) -> Option<Walk>
 }
 
 // As many capabilities from `at`.
+// kept: beside `judge_groups`, since `seen_by` asks for S-1-15-2-2 too, and `walked` does not.
 fn judge_capabilities(s: &[u8], at: usize, n: u32) -> Option<Capabilities>
     requires { at ≤ length s.now }
     ensures result_value { seen_by result ≡ told seen_of (many flat_identity n s.now at) }

@@ -20,8 +20,6 @@ use crate::refusal::Refusal;
 use records::Attributes;
 
 // The place after what was read, and after what was written of it.
-// kept: a buffer stands beside its place, since a struct that holds a buffer must say in each contract
-// that it still holds the same one; and `attrs` is a truth, for `member_bytes` of specs asks it.
 #[derive(Clone, Copy)]
 pub struct Place {
     pub from: usize,
@@ -29,6 +27,8 @@ pub struct Place {
 }
 
 // Writes a number of five groups, as most words of a domain are, and answers the place after it.
+// kept: a buffer stands beside its place, here and below, since a struct that holds a buffer must say
+// in each contract that it still holds the same one.
 fn put_five(out: &mut [u8], o: usize, v: u64) -> usize
     requires { (268435456 ≤ v) × (v < 34359738368) × (o + length (packed v) ≤ length out.old) }
     ensures { Wrote out.old out.new o result (packed v) }
@@ -43,6 +43,7 @@ fn put_five(out: &mut [u8], o: usize, v: u64) -> usize
 
 // Writes a number in sevens at place `o`, shortest form, and answers the place after it. Most are
 // one byte or five, which are written at once.
+// kept: beside audit's `put`: this one is for speed, and that one measures too.
 fn put(out: &mut [u8], o: usize, v: u64) -> usize
     requires { o + length (packed v) ≤ length out.old }
     ensures { Wrote out.old out.new o result (packed v) }
@@ -72,8 +73,9 @@ fn pack_words(w: &[u8], n: usize, out: &mut [u8], o: usize) -> usize
     ensures { Wrote out.old out.new o result (packed_words n w.now 8) }
 {
     let mut to = o;
+    // kept: no plainer in chunks of four: `packed_words` reads by places, and `n` would cut them.
     for k in 0..n {
-        to = put(out, to, word(w, 8 + 4 * k) as u64);
+        to = put(out, to, u64::from(word(w, 8 + 4 * k)));
     }
     to
 }
@@ -94,10 +96,11 @@ fn pack_attributes(word: Attributes, out: &mut [u8], o: usize) -> usize
     requires { o + length (packed word.0) ≤ length out.old }
     ensures { Wrote out.old out.new o result (packed word.0) }
 {
-    put(out, o, word.0 as u64)
+    put(out, o, u64::from(word.0))
 }
 
 // A member: an identity and, where `attrs`, its attribute word.
+// kept: `attrs` is a truth, here and below, for `member_bytes` of specs asks it.
 fn pack_member(s: &[u8], attrs: bool, out: &mut [u8], at: Place) -> Place
     requires { (sid_end s.now at.from ≡ 0 → ⊥) × (at.to + length (member_bytes attrs s.now at.from) ≤ length out.old) }
     ensures wrote { Wrote out.old out.new at.to result.to (member_bytes attrs s.now at.from) }
@@ -140,7 +143,7 @@ fn pack_crowd(s: &[u8], attrs: bool, out: &mut [u8], at: Place) -> Place
     let w = &s[at.from..e];
     let a = pack_identity(w, out, at.to);
     let n = base::u32_at(s, e);
-    let to = put(out, a, n as u64);
+    let to = put(out, a, u64::from(n));
     pack_members(s, n, attrs, out, Place { from: e + 4, to })
 }
 
@@ -151,7 +154,7 @@ fn pack(s: &[u8], out: &mut [u8]) -> usize
 {
     let flags = base::u32_at(s, 0);
     let a = put(out, 0, 1);
-    let b = put(out, a, flags as u64);
+    let b = put(out, a, u64::from(flags));
     let to = put(out, b, base::u64_at(s, 4));
     let p = pack_crowd(s, true, out, Place { from: 12, to });
     if flags & 1 == 0 {

@@ -5,9 +5,9 @@ ghost use Rattle.tokens.specs.Answers.{number_of};
 // Misshapen, breaking a token rule, or longer than the buffer that is lent.
 #[derive(Clone, Copy, PartialEq, Eq)]
 pub enum Refusal {
-    Misshapen,
-    BreaksRule,
-    TooLong,
+    Misshapen = 3,
+    BreaksRule = 4,
+    TooLong = 11,
 }
 
 impl Refusal {
@@ -15,10 +15,6 @@ impl Refusal {
     pub fn number(self) -> u32
         ensures { result ≡ number_of self }
     {
-        match self {
-            Refusal::Misshapen => 3,
-            Refusal::BreaksRule => 4,
-            Refusal::TooLong => 11,
-        }
+        self as u32
     }
 }

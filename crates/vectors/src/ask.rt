@@ -1,5 +1,4 @@
 // Cases of a question.
-// kept: a buffer a byte longer than the longest file, so that a longer one is asked too.
 use crate::text::ends_with_number;
 use answers::Answer;
 use lists::Rights;
@@ -62,6 +61,7 @@ fn is_told(text: &[u8], a: Answer) -> bool {
 // Whether the question in hexadecimal digits has the answer that the text begins with. The buffer
 // has room for a file that is too long by one byte.
 pub(crate) fn agrees(hex: &[u8], text: &[u8]) -> bool {
+    // kept: a buffer a byte longer than the longest file, so that a longer one is asked too.
     let mut file = [0u8; 65538];
     let Some(n) = bytes_of(hex, b'\n', &mut file) else {
         return false;

@@ -1,5 +1,4 @@
 // Cases of the two converters.
-// kept: buffers of a fixed size, a byte longer than the longest form: what is longer is seen to be so.
 ghost use Rattle.std.specs.Prelude.{◌≤◌, IfSome};
 
 use crate::text::ends_with_number;
@@ -7,6 +6,7 @@ use testkit::bytes_of;
 use tokens::Refusal;
 
 // The two forms of a token.
+// kept: `converts` has its own: `testkit` knows no tokens, and what each is converted to differs.
 #[derive(Clone, Copy)]
 pub(crate) enum Form {
     Listing,
@@ -26,6 +26,7 @@ impl Form {
 
     // Puts the bytes of a token, given in hexadecimal digits, into a buffer. They have to be of a
     // length that this form has.
+    // kept: a buffer of a fixed size, a byte longer than the longest form, so that more is seen.
     fn bytes(self, hex: &[u8], out: &mut [u8; 28022]) -> Option<usize>
         ensures { IfSome result (λ n. n ≤ 28022) }
     {
@@ -78,6 +79,7 @@ pub(crate) fn refused(form: Form, other: Form, hex: &[u8], line: &[u8]) -> bool 
     };
     let mut out = [0u8; 28021];
     let room = other.most();
+    // kept: a status of its own: the line has the number alone, and no line has 0.
     let status = match other.convert(&bytes[0..n], &mut out[0..room]) {
         Ok(_) => 0,
         Err(refusal) => refusal.number(),

@@ -1,11 +1,7 @@
--- `listed` ends: it stands at what the reader shows at its place, and the measure is how many bytes of what is held are left.
+-- `listed` ends: it stands in a held list, and the measure is how many bytes of it are left.
 -- Assumes nothing.
-use Rattle.std.proofs.Common.{◌≡◌, ◌-◌, length}
-use Rattle.reader.specs.Reading.{step_at, shown}
+use Rattle.std.proofs.Common.{◌-◌, length}
 use Rattle.entries.proofs.listed.Given as goal
 
-abbrev pub invariant-loop-step : goal.invariant-loop-step
-invariant-loop-step g l = l.step ≡ shown (step_at l.own l.at)
-
-abbrev pub decreases-loop-step : goal.decreases-loop-step
-decreases-loop-step g l = length l.own - l.at
+abbrev pub decreases-loop-a : goal.decreases-loop-a
+decreases-loop-a g l = length l.r.list.now - l.r.at

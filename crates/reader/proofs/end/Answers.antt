@@ -10,26 +10,26 @@ use Rattle.reader.specs.Reading.{end_from}
 use Rattle.reader.proofs.StepLaws.{end_none, end_stop, end_more, end_left}
 use Rattle.reader.proofs.end.Goals as goal
 
-pub loop-k-init : goal.loop-k-init
-loop-k-init c = ap (λ (m : ℕ). end_from c.args.list.now m 8) (omega arith)
+pub loop-init : goal.loop-init
+loop-init c = ap (λ (m : ℕ). end_from c.args.list.now m 8) (omega arith)
 
 pub returns-in_default : goal.returns-in_default
 returns-in_default c =
     let l = c.args.list.now in
     let n = u16_at l 4 in
-    let none = stands_not (ace_at l c.loop-k.p) (sym c.in_default.is ∙ c.ace_at.ensures.value) in
-    sym (c.loop-k.invariant ∙ end_left l n c.loop-k._k c.loop-k.p (omega arith) ∙ end_stop l (n - (c.loop-k._k + 1)) c.loop-k.p none)
+    let none = stands_not (ace_at l c.loop.p) (sym c.in_default.is ∙ c.ace_at.ensures.value) in
+    sym (c.loop.invariant ∙ end_left l n c.loop.counter c.loop.p (omega arith) ∙ end_stop l (n - (c.loop.counter + 1)) c.loop.p none)
 
-pub loop-k-preserved : goal.loop-k-preserved
-loop-k-preserved c =
+pub loop-preserved : goal.loop-preserved
+loop-preserved c =
     let l = c.args.list.now in
     let n = u16_at l 4 in
-    let s = stands_is c.in-Some.a (ace_at l c.loop-k.p) c.in-Some.ensures.value in
-    c.loop-k.invariant ∙ end_left l n c.loop-k._k c.loop-k.p (omega arith) ∙ end_more l (n - (c.loop-k._k + 1)) c.loop-k.p s.1
-    ∙ ap (λ (a : Ace). end_from l (n - (c.loop-k._k + 1)) a.next) (sym s.0)
+    let s = stands_is c.in-Some.a (ace_at l c.loop.p) c.in-Some.ensures.value in
+    c.loop.invariant ∙ end_left l n c.loop.counter c.loop.p (omega arith) ∙ end_more l (n - (c.loop.counter + 1)) c.loop.p s.1
+    ∙ ap (λ (a : Ace). end_from l (n - (c.loop.counter + 1)) a.next) (sym s.0)
 
 pub returns : goal.returns
 returns c =
     let l = c.args.list.now in
     let n = u16_at l 4 in
-    sym (c.loop-k.invariant ∙ end_none l (n - c.loop-k._k) c.loop-k.p (omega arith))
+    sym (c.loop.invariant ∙ end_none l (n - c.loop.counter) c.loop.p (omega arith))

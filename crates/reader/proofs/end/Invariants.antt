@@ -5,5 +5,5 @@ use Rattle.base.specs.Bytes.{u16_at}
 use Rattle.reader.specs.Reading.{end_from}
 use Rattle.reader.proofs.end.Given as goal
 
-abbrev pub invariant-loop-k : goal.invariant-loop-k
-invariant-loop-k l = end_from l.list (u16_at l.list 4) 8 ≡ end_from l.list (u16_at l.list 4 - l._k) l.p
+abbrev pub invariant-loop : goal.invariant-loop
+invariant-loop l = end_from l.list (u16_at l.list 4) 8 ≡ end_from l.list (u16_at l.list 4 - l.counter) l.p

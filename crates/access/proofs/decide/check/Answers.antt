@@ -10,4 +10,4 @@ use Rattle.access.proofs.decide.check.Goals as goal
 pub returns : goal.returns
 unfolding report_of
 returns c =
-    ap (λ (t : Traced). t.answer) c.handed.ensures ∙ c.reported.ensures.answer ∙ unlent_answer _ (report_of (posed c.args.q))
+    ap (λ (t : Traced). t.answer) c.handed.ensures ∙ c.reported.ensures.report.answer ∙ unlent_answer _ (report_of (posed c.args.q))

@@ -6,5 +6,5 @@ use mathlib.Core.Path.{◌≡◌}
 use Rattle.lists.specs.Simple.{simple_at, simple}
 use Rattle.lists.proofs.acl.is_simple.Given as goal
 
-abbrev pub invariant-loop-k : goal.invariant-loop-k
-invariant-loop-k l = simple l.deep l.l ≡ simple_at l.deep l.l (u16_at l.l 4 - l._k) l.at
+abbrev pub invariant-loop : goal.invariant-loop
+invariant-loop l = simple l.deep l.l ≡ simple_at l.deep l.l (u16_at l.l 4 - l.counter) l.at

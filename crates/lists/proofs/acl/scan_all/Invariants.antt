@@ -7,5 +7,5 @@ use Rattle.lists.specs.Acl.{scan_of}
 use Rattle.lists.proofs.EntrySteps.{Left}
 use Rattle.lists.proofs.acl.scan_all.Given as goal
 
-abbrev pub invariant-loop-k : goal.invariant-loop-k
-invariant-loop-k l = scan_of l.deep l.l ≡ Left l.deep l.l l.alien (u16_at l.l 4 - l._k) l.at
+abbrev pub invariant-loop : goal.invariant-loop
+invariant-loop l = scan_of l.deep l.l ≡ Left l.deep l.l l.alien (u16_at l.l 4 - l.counter) l.at

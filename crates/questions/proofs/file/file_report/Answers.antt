@@ -9,19 +9,19 @@ use Rattle.questions.proofs.FileSteps.{file_long, file_misshapen_lem, file_answe
 use Rattle.access.proofs.ReportLaws.{lent_refused}
 use Rattle.questions.proofs.file.file_report.Goals as goal
 
-pub returns-then-s-gt65536 : goal.returns-then-s-gt65536
-returns-then-s-gt65536 c =
+pub returns-then-s-gt65536-clause-report : goal.returns-then-s-gt65536-clause-report
+returns-then-s-gt65536-clause-report c =
     let a = c.args in
     lent_refused a.lent (length a.out.now) 12 (file_report a.s.now) a.out.now _ _ (file_long a.s.now (omega (arith, c.if-s-gt65536.true))) refl refl
     refl
 
-pub returns-in_default : goal.returns-in_default
-returns-in_default c =
+pub returns-in_default-clause-report : goal.returns-in_default-clause-report
+returns-in_default-clause-report c =
     let a = c.args in
     lent_refused a.lent (length a.out.now) 12 (file_report a.s.now) a.out.now _ _
     (file_misshapen_lem a.s.now (omega (arith, c.if-s-gt65536.false)) c.in_default.ensures) refl refl refl
 
-pub returns : goal.returns
-returns c =
+pub returns-clause-report : goal.returns-clause-report
+returns-clause-report c =
     let s = c.args.s.now in
-    rw (file_answered s c.if-s-gt65536.false (posed c.in-Some.q) (length s) c.in-Some.ensures) c.reported.ensures
+    rw (file_answered s c.if-s-gt65536.false (posed c.in-Some.q) (length s) c.in-Some.ensures) c.reported.ensures.report

@@ -10,4 +10,4 @@ use Rattle.questions.proofs.file.question.Goals as goal
 pub returns : goal.returns
 returns c =
     let s = c.args.s.now in
-    ap (λ (t : Traced). t.answer) c.handed.ensures ∙ c.file_report.ensures.answer ∙ unlent_answer _ (file_report s) ∙ file_told s
+    ap (λ (t : Traced). t.answer) c.handed.ensures ∙ c.file_report.ensures.report.answer ∙ unlent_answer _ (file_report s) ∙ file_told s

@@ -1,16 +1,15 @@
--- `put_little` writes the bytes of a number: what is left to write, written from here, is the whole, written from the start.
+-- `put_little` writes the first of a number's eight bytes, lowest first.
 -- Assumes nothing.
-use Prim.Native.Nat.{◌+◌, ◌-◌}
-use mathlib.Core.Path.{◌≡◌, sym, ◌∙◌}
+use Prim.Native.Nat.{ℕ}
+use mathlib.Core.List.{List}
+use mathlib.Core.Path.{ap, ◌∙◌}
 use native.Mathlib.Omega.{arith}
-use Rattle.base.proofs.WriteLaws.{sets_little_none, sets_little_more}
+use lib.ListN.{take}
+use Rattle.base.proofs.ValueLaws.{length_little}
+use Rattle.records.proofs.HeadLaws.{put_part, little_first}
 use Rattle.records.proofs.writing.put_little.Goals as goal
 
-pub loop-to-preserved : goal.loop-to-preserved
-loop-to-preserved c =
-    let i = c.loop-to.invariant in
-    let less : c.args.o + c.args.n - c.loop-to.to - 1 ≡ c.args.o + c.args.n - (c.loop-to.to + 1) = omega arith in
-    (i.0, i.1 ∙ sets_little_more _ _ _ _ (omega arith) ∙ rw less)
-
 pub returns : goal.returns
-returns c = sym (c.loop-to.invariant.1 ∙ sets_little_none _ _ _ _ (omega arith))
+returns c =
+    put_part c.args.out.now c.args.o _ _ _ (c.copy_from_slice.ensures.after ∙ ap (λ (l : List ℕ). take c.args.n l) c.to_le_bytes.ensures ∙ little_first c.args.n c.args.v (omega arith))
+    (omega (arith, length_little c.args.n c.args.v)) (omega arith)

@@ -32,7 +32,7 @@ put-to-requires c =
     let room =
     rw (crowd_is c.args.attrs c.args.s.now c.args.at.from c.identity_end-e.result c.u32_at-n.result c.identity_end-e.ensures.value c.u32_at-n.ensures) at c.requires.1 in
     let ms = members_bytes c.args.attrs c.u32_at-n.result c.args.s.now (c.identity_end-e.result + 4) in
-    room_first _ _ (packed c.u32_at-n.result) ms (room_after_lem (packed c.u32_at-n.result ++ ms) c.pack_identity-a.ensures room)
+    rw c.from.ensures (room_first _ _ (packed c.u32_at-n.result) ms (room_after_lem (packed c.u32_at-n.result ++ ms) c.pack_identity-a.ensures room))
 
 pub pack_members-requires : goal.pack_members-requires
 pack_members-requires c =
@@ -40,13 +40,13 @@ pack_members-requires c =
     rw (crowd_is c.args.attrs c.args.s.now c.args.at.from c.identity_end-e.result c.u32_at-n.result c.identity_end-e.ensures.value c.u32_at-n.ensures) at c.requires.1 in
     let ms = members_bytes c.args.attrs c.u32_at-n.result c.args.s.now (c.identity_end-e.result + 4) in (
       crowd_members _ _ _ _ _ c.identity_end-e.ensures.value c.u32_at-n.ensures c.requires.0,
-      room_after_lem ms c.put-to.ensures (room_after_lem (packed c.u32_at-n.result ++ ms) c.pack_identity-a.ensures room),
+      room_after_lem ms (rw c.from.ensures at c.put-to.ensures) (room_after_lem (packed c.u32_at-n.result ++ ms) c.pack_identity-a.ensures room),
     )
 
 pub returns : goal.returns
 returns c =
     record {
       wrote = wrote_same (sym (crowd_is _ _ _ _ _ c.identity_end-e.ensures.value c.u32_at-n.ensures))
-          (wrote_append c.pack_identity-a.ensures (wrote_append c.put-to.ensures c.pack_members.ensures.wrote));
+          (wrote_append c.pack_identity-a.ensures (wrote_append (rw c.from.ensures at c.put-to.ensures) c.pack_members.ensures.wrote));
       from_value = c.pack_members.ensures.from_value ∙ sym (crowd_end_is _ _ _ _ _ c.identity_end-e.ensures.value c.u32_at-n.ensures);
     }

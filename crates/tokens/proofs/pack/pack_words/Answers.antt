@@ -14,7 +14,7 @@ loop-k-init c = let z : c.args.n - 0 ≡ c.args.n = omega arith in (rw z (left_s
 pub put-to-requires : goal.put-to-requires
 put-to-requires c =
     let i = c.loop-k.invariant in
-    left_room i.0 (packed c.word.result) _ (words_more _ _ _ _ (omega arith) c.word.ensures) i.2
+    rw c.from.ensures (left_room i.0 (packed c.word.result) _ (words_more _ _ _ _ (omega arith) c.word.ensures) i.2)
 
 pub loop-k-preserved : goal.loop-k-preserved
 loop-k-preserved c =
@@ -22,7 +22,7 @@ loop-k-preserved c =
     let k = c.loop-k.k in
     let less : c.args.n - (k + 1) ≡ c.args.n - k - 1 = omega arith in
     let next : 8 + 4 * (k + 1) ≡ 8 + 4 * k + 4 = omega arith in
-    (rw (less, next) (left_step i.0 _ _ (words_more _ _ _ _ (omega arith) c.word.ensures) c.put-to.ensures), i.1, i.2)
+    (rw (less, next) (left_step i.0 _ _ (words_more _ _ _ _ (omega arith) c.word.ensures) (rw c.from.ensures at c.put-to.ensures)), i.1, i.2)
 
 pub shape_of-out : goal.shape_of-out
 shape_of-out c = let i = c.loop-k.invariant in left_long i.0

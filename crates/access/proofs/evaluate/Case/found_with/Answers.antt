@@ -13,7 +13,7 @@ pub returns : goal.returns
 returns c =
     let s = c.args.self in
     let l = s.listing.now in
-    let long = c.confinement-kept.auto.seats in
+    let long = c.confinement-left.auto.seats in
     let o = c.of-crowd.ensures in
     let shown = crowd_shown true l user_place _ _ _ _ c.requires.0 (omega (arith, long, c.requires.1.0))
     (omega (arith, long, c.requires.1.1.0)) refl c.chain_crowd.ensures.heads_after c.chain_crowd.ensures.seats_after in
@@ -24,7 +24,7 @@ returns c =
     ∙ normal_walked s.kind _ _ alike s.owner.now s.me.now s.present _ s.list.now c.of-crowd.result.hits c.pass-walked.result hits
     c.pass-walked.ensures
     ∙ rw (c.from-privileges.ensures, c.u32_at.ensures) refl)
-    c.confinement-kept.ensures
+    c.confinement-left.ensures
     (rules_shown s.kind _ _ alike s.owner.now s.me.now _ (rules_by_lengths s.policy.now) c.of-crowd.result.hits c.ruled_by-rules.result hits
     c.ruled_by-rules.ensures
     ∙ rw (c.from-privileges.ensures, c.u32_at.ensures) refl)

@@ -1,8 +1,7 @@
 -- `admits` meets its contract: no bytes, or what they come to, where a fault does not admit.
 -- Assumes nothing.
 use mathlib.Core.Bool.{true, false}
-use mathlib.Core.Path.{◌≡◌, refl}
-use borrow.Author.Tests.{eq-eqb, ne_eqb}
+use mathlib.Core.Path.{◌≡◌, refl, sym, ◌∙◌}
 use Rattle.std.specs.Result.{result_unwrap_or}
 use Rattle.conditions.specs.Scanning.{Outcome, weighed}
 use Rattle.conditions.specs.Scanning.Outcome.{Broken, Foreign, Says}
@@ -17,13 +16,13 @@ says_is Broken = refl
 says_is Foreign = refl
 says_is (Says b) = refl
 
-pub returns-then-c-eq0 : goal.returns-then-c-eq0
+pub returns-then-is_empty : goal.returns-then-is_empty
 unfolding admits
-returns-then-c-eq0 c = rw (eq-eqb _ _ c.if-c-eq0.true)
+returns-then-is_empty c = rw (sym c.is_empty.ensures ∙ c.if-is_empty.true) c.if-is_empty.true
 
-pub returns-else-c-eq0 : goal.returns-else-c-eq0
+pub returns-else-is_empty : goal.returns-else-is_empty
 unfolding admits
-returns-else-c-eq0 c =
+returns-else-is_empty c =
     let a = c.args in
     let f = matches true (shown_in a.self) a.self.hits in
-    rw (ne_eqb _ _ c.if-c-eq0.false, c.unwrap_or.ensures, c.weigh.ensures, outcome_told f a.c.now) (says_is (outcome f a.c.now))
+    rw (sym c.is_empty.ensures ∙ c.if-is_empty.false, c.unwrap_or.ensures, c.weigh.ensures, outcome_told f a.c.now) (says_is (outcome f a.c.now))

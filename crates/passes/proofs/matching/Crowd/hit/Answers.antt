@@ -3,21 +3,20 @@
 -- Assumes nothing.
 use mathlib.Core.Bool.{Bool, true, false}
 use mathlib.Core.Path.{◌≡◌, refl, sym, ap₂, ◌∙◌}
-use borrow.Author.Tests.{eq-eqb, ne_eqb}
 use Rattle.passes.specs.Chains.{chain}
 use Rattle.passes.specs.Crowds.{shown_in}
 use Rattle.passes.specs.Matching.{among, stands, hit_by}
 use Rattle.passes.proofs.ChainsLaws.{among_start, chain_none}
 use Rattle.passes.proofs.matching.Crowd.hit.Goals as goal
-use Rattle.passes.proofs.matching.Crowd.hit.Goals.{then-w-eq0-via-then-w-eq0, then-w-eq0-via-else-w-eq0+then-is_virtual}
+use Rattle.passes.proofs.matching.Crowd.hit.Goals.{then-is_empty-via-then-is_empty, then-is_empty-via-else-is_empty+then-is_virtual}
 
-pub returns-then-w-eq0 : goal.returns-then-w-eq0
+pub returns-then-is_empty : goal.returns-then-is_empty
 unfolding stands
-returns-then-w-eq0 c =
-    elim c.then-w-eq0.branch [
-      | then-w-eq0-via-then-w-eq0 w ↦ rw (eq-eqb _ _ w.if-w-eq0.true) refl
-      | then-w-eq0-via-else-w-eq0+then-is_virtual w ↦
-          rw (ne_eqb _ _ w.if-w-eq0.false, sym w.is_virtual.ensures ∙ w.if-is_virtual.true) refl
+returns-then-is_empty c =
+    elim c.then-is_empty.branch [
+      | then-is_empty-via-then-is_empty w ↦ rw (sym c.is_empty.ensures ∙ w.if-is_empty.true) refl
+      | then-is_empty-via-else-is_empty+then-is_virtual w ↦
+          rw (sym c.is_empty.ensures ∙ w.if-is_empty.false, sym w.is_virtual.ensures ∙ w.if-is_virtual.true) refl
     ]
 
 pub returns-then-n-eq0 : goal.returns-then-n-eq0
@@ -30,7 +29,7 @@ returns-then-n-eq0 c =
     ∙ chain_none allow a.self.seats.now a.self.listing.now a.w.now c.head-n.result c.if-n-eq0.true
     in
     rw (
-      ne_eqb _ _ c.if-w-eq0.false,
+      sym c.is_empty.ensures ∙ c.if-is_empty.false,
       sym c.is_virtual.ensures
           ∙ c.if-is_virtual.false,
       none true,
@@ -46,7 +45,7 @@ returns c =
     λ allow. among_start allow a.self.heads.now a.self.seats.now a.self.listing.now a.w.now c.head-n.result c.head-n.ensures.value
     in
     rw (
-      ne_eqb _ _ c.if-w-eq0.false,
+      sym c.is_empty.ensures ∙ c.if-is_empty.false,
       sym c.is_virtual.ensures
           ∙ c.if-is_virtual.false,
       found true,
