@@ -56,7 +56,9 @@ fn answer_within<const N: usize>(q: Question, out: &mut [u8], lent: bool) -> Res
 }
 
 // The report. The room for the token's listing is chosen by the record's length.
-// kept: `lent` beside `out`, as in `reported`.
+// kept: `lent` beside `out`, as in `reported`. It is compiled apart, so that a kind or a mask is refused
+// before there is a room on the stack.
+#[inline(never)]
 pub(crate) fn answered(q: Question, out: &mut [u8], lent: bool) -> Result<Traced, Refusal>
     ensures report { Lent (in_buffer (length out.old) (lending lent (report_past (posed q.entry))))
         out.old out.new (handed result) }

@@ -20,6 +20,7 @@ fn is_kind(kind: u32) -> bool
 // The report on a question, where a buffer is lent for its trail or not.
 // kept: `lent` beside `out`, for as `Option<&mut [u8]>` the proof does not close: tried on functions that
 // pass one on, as `answered` does, which could not say what is left in the buffer.
+#[inline(always)]
 pub fn reported(q: Question, out: &mut [u8], lent: bool) -> Result<Traced, Refusal>
     ensures report { Lent (in_buffer (length out.old) (lending lent (report_of (posed q.entry))))
         out.old out.new (handed result) }

@@ -12,6 +12,7 @@ use answers::Answer;
 use lists::Rights;
 use std::alloc::Global;
 use std::env::Env;
+use std::fs::File;
 use std::io::Read;
 use std::{fmt, io};
 
@@ -155,6 +156,11 @@ fn answer(rt: &HostRuntime, t: Task, name: &[u8], file: io::Result<Vec<u8>>) -> 
     Ok(())
 }
 
+// The bytes of the file that has a name.
+fn read_named(rt: &HostRuntime, name: &[u8]) -> io::Result<Vec<u8>> {
+    read(rt.alloc(), File::open(rt, files::path(name)?)?)
+}
+
 // The answer to standard input.
 fn answer_input(rt: &HostRuntime, t: Task) -> io::Result<()> {
     answer(rt, t, b"standard input", read(rt.alloc(), rt.stdin()))
@@ -168,10 +174,7 @@ fn answer_named(rt: &HostRuntime, i: usize, t: Task) -> io::Result<()> {
     };
     match &path[..n] {
         b"-" => answer_input(rt, t),
-        name => {
-            let file = files::open(rt, name).and_then(|file| read(rt.alloc(), file));
-            answer(rt, t, name, file)
-        }
+        name => answer(rt, t, name, read_named(rt, name)),
     }
 }
 
@@ -188,14 +191,14 @@ fn wanted(rt: &impl Env) -> Option<Task> {
 }
 
 fn main(rt: HostRuntime) -> io::Result<()> {
-    if !files::is_given(&rt, 1) {
+    if !files::is_given(rt.arg(1, &mut [])) {
         return answer_input(&rt, Task::Ask);
     }
-    if !files::is_given(&rt, 2) {
+    if !files::is_given(rt.arg(2, &mut [])) {
         return answer_named(&rt, 1, Task::Ask);
     }
     match wanted(&rt) {
-        Some(t) if !files::is_given(&rt, 3) => answer_named(&rt, 2, t),
+        Some(t) if !files::is_given(rt.arg(3, &mut [])) => answer_named(&rt, 2, t),
         _ => eprintln!(rt; "usage: ask [FILE|-] | ask why FILE|- | ask trail FILE|-"),
     }
 }

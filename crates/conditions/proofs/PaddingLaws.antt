@@ -1,12 +1,15 @@
--- Laws of padding: zeros as a test of each byte (zeros_all), from the end on (zeros_end), and a part up to the end (part_rest). Assumes nothing.
-use Prim.Native.Nat.{ℕ, ◌≤◌}
+-- Laws of padding: zeros as a test of each byte (zeros_all), from a place (zeros_hit -miss -end), and a part up to the end (part_rest).
+-- Assumes nothing.
+use Prim.Native.Nat.{ℕ, ◌+◌, ◌<◌, ◌≤◌}
 use mathlib.Core.Path.{◌≡◌, refl, sym, ap, ◌∙◌}
 use mathlib.Core.List.{List, [], ◌∷◌}
 use mathlib.Core.Bool.{Bool, true, false, cond, ◌&&◌}
-use lib.ListN.{length, take, drop, length-drop, drop_of_length-le}
-use lib.Seq.{take-length}
-use Rattle.base.specs.Bytes.{part}
+use native.Mathlib.Numerals.{add-one}
 use lib.Dec.{eqb}
+use lib.ListN.{length, get_or, take, drop, length-drop, drop_of_length-le}
+use lib.Seq.{drop-cons, take-length}
+use borrow.Author.Tests.{eq-eqb, ne_eqb}
+use Rattle.base.specs.Bytes.{byte_at, part}
 use Rattle.std.specs.List.{list_all}
 use Rattle.conditions.specs.Condition.{zeros}
 
@@ -20,6 +23,14 @@ zeros_all (x ∷ s) = rw (zeros_all s) (go (eqb x 0) (zeros s))
     go false u = refl
 
 module _ (s : List ℕ) (i : ℕ) where
+  pub zeros_hit : i < length s → byte_at s i ≡ 0 → zeros (drop i s) ≡ zeros (drop (i + 1) s)
+  unfolding zeros
+  zeros_hit h e = rw (add-one, drop-cons s i 0, eq-eqb (get_or s i 0) 0 e)
+
+  pub zeros_miss : i < length s → (byte_at s i ≡ 0 → ⊥) → zeros (drop i s) ≡ false
+  unfolding zeros
+  zeros_miss h e = rw (drop-cons s i 0, ne_eqb (get_or s i 0) 0 e)
+
   pub zeros_end : length s ≤ i → zeros (drop i s) ≡ true
   unfolding zeros
   zeros_end h = rw (drop_of_length-le s h)

@@ -52,8 +52,10 @@ fn forms(rt: &impl Print, name: &[u8], rest: &[u8]) -> io::Result<()> {
 
 // Runs the cases of a file.
 pub(crate) fn run(rt: &HostRuntime, name: &[u8]) -> io::Result<()> {
-    let text = testkit::read(rt, name, 16384)?;
-    for (line, rest) in Lines(&text) {
+    // kept: a buffer of a fixed size, which `read` fills: a Vec could fail.
+    let mut text = [0u8; 16384];
+    let n = testkit::read(rt, name, &mut text)?;
+    for (line, rest) in Lines(&text[..n]) {
         if let Some([name @ .., _]) = line.strip_prefix(b"# ") {
             forms(rt, name, rest)?;
         }

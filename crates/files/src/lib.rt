@@ -1,14 +1,16 @@
 // What the programs share: their arguments and the files that these name, and the line on standard
-// error that says what failed. What the system answers, and what is written, no contract can say: of
-// `is_given`, `open` and the text of an error (`reason`) nothing is stated. Every other result is.
+// error that says what failed. Whether an argument is there, and for a file, a program asks the system
+// itself: what that answer or name means `is_given` and `path` say. What the system answers, and what
+// is written, no contract can say, so of the text of an error (`reason`) nothing is stated.
 #![tactic(auto)]
 
 ghost use Rattle.std.specs.Prelude.{◌≡◌, ◌≤◌, length, take, IfOk, IfSome};
+ghost use Rattle.std.specs.Prelude.{IsUtf8, MatchResult};
 ghost use Rattle.std.specs.Result.{result_ok};
+ghost use Rattle.files.specs.Arguments.{is_given};
 
 use std::alloc::Global;
 use std::env::{Env, FillError};
-use std::fs::File;
 use std::io;
 use std::io::Read;
 
@@ -17,9 +19,12 @@ const TOO_LONG: i32 = 36;
 
 const NO_TEXT: i32 = 84;
 
-// Whether there is an argument at a place.
-pub fn is_given(rt: &impl Env, i: usize) -> bool {
-    !matches!(rt.arg(i, &mut []), Err(FillError::NotPresent))
+// Whether there is an argument, by what the system answers for it; one that is longer than what was
+// lent for it is there.
+pub fn is_given(answer: Result<usize, FillError>) -> bool
+    ensures { result ≡ is_given answer }
+{
+    !matches!(answer, Err(FillError::NotPresent))
 }
 
 // Puts the name that an argument is into a buffer, and answers how many bytes it has. It has to fit.
@@ -30,12 +35,15 @@ pub fn name(rt: &impl Env, i: usize, out: &mut [u8]) -> io::Result<usize>
         .map_err(|_| io::Error::from_raw_os_error(TOO_LONG))
 }
 
-// Opens the file that has a name, which has to be text.
-pub fn open(rt: &HostRuntime, name: &[u8]) -> io::Result<File> {
-    let Ok(path) = str::from_utf8(name) else {
-        return Err(io::Error::from_raw_os_error(NO_TEXT));
-    };
-    File::open(rt, path)
+// The name of a file, which has to be text.
+pub fn path(name: &[u8]) -> io::Result<&str>
+    ensures { MatchResult result (λ p. (p.now ≡ name.now) × IsUtf8 name.now)
+        (λ e. ¬ (IsUtf8 name.now)) }
+{
+    match str::from_utf8(name) {
+        Ok(path) => Ok(path),
+        Err(_) => Err(io::Error::from_raw_os_error(NO_TEXT)),
+    }
 }
 
 // The first bytes of an input, as many as the limit.

@@ -5,7 +5,7 @@ ghost use Rattle.passes.specs.Crowds.{shown_in};
 ghost use Rattle.passes.specs.Matching.{among, side, matches, nobody, hit_of, hits_of};
 ghost use Rattle.passes.specs.OneWalk.{virtual_matches};
 
-use crate::search::{head, is_near, next, search_row, sits};
+use crate::search::{head, is_near, next, sits};
 use seats::last;
 
 // How an identity stands in for a virtual one, for allow and for deny.
@@ -55,6 +55,8 @@ impl Hits {
 
 // Whether a SID matches one of the chain that begins with the seat of a number; with 0 there is
 // none. Seat by seat along the chain, and down the row from where it goes on nearby.
+// kept: a loop of its own, which `pass` has too, and not `search_row`: with two callers the compiler
+// keeps that apart from `pass` (docs/DECISIONS.md, 52). A chain leaps, so no range goes along it.
 fn search_chain(listing: &[u8], seats: &[u64], first: usize, w: &[u8], allow: bool) -> bool
     requires { first ≤ length seats.now - 1 }
     ensures { result ≡ among allow
@@ -62,19 +64,25 @@ fn search_chain(listing: &[u8], seats: &[u64], first: usize, w: &[u8], allow: bo
 {
     let word = last(w);
     let mut n = first;
-    // kept: a chain leaps, so no range goes along it. `pass` has the same loop in its own.
-    while n != 0 {
+    let mut down = false;
+    loop {
+        if n == 0 {
+            return false;
+        }
         let x = seats[n];
         if sits(listing, x, word, w, allow) {
             return true;
         }
         let after = next(x);
         if is_near(n, after) {
-            return search_row(listing, seats, n - 1, w, allow);
+            down = true;
         }
-        n = after;
+        if down {
+            n -= 1;
+        } else {
+            n = after;
+        }
     }
-    false
 }
 
 // A crowd: those whom the tables of chains show over a token's listing, and how the owner and the

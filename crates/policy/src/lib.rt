@@ -11,4 +11,4 @@ mod walk;
 pub use one_rule::Rule;
 pub use rules::{Ruled, ruled_by};
 pub use shape::{Refusal, judge_policy};
-pub use walk::Rules;
+pub use walk::{Rules, rule_by_lengths};

@@ -7,20 +7,21 @@ use crate::one_rule::Rule;
 use crate::sections::section_at;
 use lists::Extent;
 
-// The rule at a place, by the lengths of its sections alone: its lists are not scanned.
-// kept: a section that does not fit is read as an empty one at place 0, and the next is read from
-// there, as `rule_by_lengths` of specs says; so the first four take no `?`.
-fn rule_by_lengths(s: &[u8], at: usize) -> Option<Rule>
-    ensures value { result ≡ found (rule_by_lengths s.now at) }
-    ensures placed { IfSome result (λ r. Placed s.now r) }
+// The rule at a place, by the lengths of its sections alone: its lists are not scanned. A section that
+// does not fit is an empty one at place 0, and the next is read from there.
+// kept: places of 0 and no `Option`: `rule_by_lengths` of specs says where the sections stand that do
+// fit, also of a rule of which one does not.
+pub fn rule_by_lengths(s: &[u8], at: usize) -> Rule
+    ensures value { result ≡ rule_by_lengths s.now at }
+    ensures placed { Placed s.now result }
 {
     let nowhere = Extent { from: 0, to: 0 };
     let applies = section_at(s, at).unwrap_or(nowhere);
     let effective = section_at(s, applies.to).unwrap_or(nowhere);
     let sacl = section_at(s, effective.to).unwrap_or(nowhere);
     let staged = section_at(s, sacl.to).unwrap_or(nowhere);
-    let staged_sacl = section_at(s, staged.to)?;
-    Some(Rule {
+    let staged_sacl = section_at(s, staged.to).unwrap_or(nowhere);
+    Rule {
         next: staged_sacl.to,
         unread: false,
         applies,
@@ -28,7 +29,20 @@ fn rule_by_lengths(s: &[u8], at: usize) -> Option<Rule>
         sacl,
         staged,
         staged_sacl,
-    })
+    }
+}
+
+// The rule at a place, if it fits.
+// kept: the place after it asked whether it is 0, as `found` of specs asks.
+fn fitting_rule(s: &[u8], at: usize) -> Option<Rule>
+    ensures value { result ≡ found (rule_by_lengths s.now at) }
+    ensures placed { IfSome result (λ r. Placed s.now r) }
+{
+    let r = rule_by_lengths(s, at);
+    if r.next == 0 {
+        return None;
+    }
+    Some(r)
 }
 
 // The rules of a policy in their order; they stop where one does not fit.
@@ -69,7 +83,7 @@ impl<'a> Iterator for Rules<'a> {
         if self.ahead == 0 {
             return None;
         }
-        let r = rule_by_lengths(self.policy, self.place)?;
+        let r = fitting_rule(self.policy, self.place)?;
         self.ahead -= 1;
         self.place = r.next;
         Some(r)

@@ -1,5 +1,5 @@
 // Files of cases: their lines, words and hexadecimal bytes.
-ghost use Rattle.std.specs.Prelude.{◌≡◌, ◌-◌, ◌<◌, ◌≤◌, ◌==◌, length, take, drop, vec_len};
+ghost use Rattle.std.specs.Prelude.{◌≡◌, ◌-◌, ◌<◌, ◌≤◌, ◌==◌, length, take, drop};
 ghost use Rattle.std.specs.List.{position};
 ghost use Rattle.std.specs.Prelude.{IfOk, IfSome, MatchOption};
 ghost use Rattle.std.specs.Iterator.{at_most};
@@ -7,23 +7,44 @@ ghost use Rattle.testkit.specs.Text.{after, found, next_line, digit, byte_of, un
 ghost use Rattle.testkit.specs.Text.{hex_bytes, counted};
 
 use crate::printing::print;
+use std::fs::File;
 use std::io;
+use std::io::Read;
 
-// Reads a file of less than so many bytes: none, after a line that says why, where it cannot be
-// opened or has more. A read or a write that fails is an error.
-pub fn read(rt: &HostRuntime, name: &[u8], room: u64) -> io::Result<Vec<u8>>
-    ensures { IfOk result (λ text. vec_len text ≤ room) }
+// Reads a file into a buffer and answers how many bytes it has: 0, after a line that says why,
+// where it cannot be opened or leaves no room in the buffer. A read or a write that fails is an
+// error.
+// kept: a buffer that is lent, and a count: a Vec can run out of memory where this cannot.
+pub fn read(rt: &HostRuntime, name: &[u8], out: &mut [u8]) -> io::Result<usize>
+    ensures { IfOk result (λ n. n ≤ length out.new) }
 {
-    let Some(file) = files::told(rt, name, files::open(rt, name))? else {
-        return Ok(Vec::new(rt.alloc()));
+    let opened = files::path(name).and_then(|path| File::open(rt, path));
+    let Some(mut file) = files::told(rt, name, opened)? else {
+        return Ok(0);
     };
-    let text = files::read(rt.alloc(), file, room)?;
-    if text.len() as u64 >= room {
+    let n = fill(&mut file, out)?;
+    if n == out.len() {
         print(rt, name)?;
         print(rt, b": too long\n")?;
-        return Ok(Vec::new(rt.alloc()));
+        return Ok(0);
     }
-    Ok(text)
+    Ok(n)
+}
+
+// Reads until a buffer is full or the file ends, and answers how many bytes that are.
+// kept: a place that each read moves by as much as it gave: there is no range to go through.
+fn fill(file: &mut impl Read, out: &mut [u8]) -> io::Result<usize>
+    ensures { IfOk result (λ n. n ≤ length out.new) }
+{
+    let mut done = 0;
+    while done < out.len() {
+        let n = file.read(&mut out[done..])?;
+        if n == 0 {
+            break;
+        }
+        done += n;
+    }
+    Ok(done)
 }
 
 // The place after the words that stand at a place.
@@ -145,11 +166,13 @@ mod tests {
     #[test]
     fn reads_a_file_of_data(rt: HostRuntime) -> Result<(), Fail> {
         fs::write(&rt, "testkit_reads.txt", b"ab\ncd".as_slice())?;
-        let all = read(&rt, b"testkit_reads.txt", 6);
-        let none = read(&rt, b"testkit_reads.txt", 5);
+        let mut room = [0u8; 6];
+        let all = read(&rt, b"testkit_reads.txt", &mut room);
+        let none = read(&rt, b"testkit_reads.txt", &mut [0u8; 5]);
         fs::remove_file(&rt, "testkit_reads.txt")?;
-        assert_eq!(rt; all?.as_slice(), b"ab\ncd".as_slice());
-        assert_eq!(rt; none?.as_slice(), b"".as_slice());
+        assert_eq!(rt; all?, 5);
+        assert_eq!(rt; room.as_slice(), b"ab\ncd\0".as_slice());
+        assert_eq!(rt; none?, 0);
         Ok(())
     }
 }

@@ -6,10 +6,13 @@
 // memory for what is said there, is it 1.
 #![tactic(auto)]
 
-ghost use Rattle.std.specs.Prelude.{◌≤◌, length, IfOk};
+ghost use Rattle.std.specs.Prelude.{◌≡◌, ◌≤◌, length, take, IfOk, IfSome};
 
+use std::alloc::Global;
 use std::env::Env;
+use std::fs::File;
 use std::io;
+use std::io::Read;
 use tokens::Refusal;
 
 // What the first argument asks for.
@@ -50,7 +53,9 @@ fn put(rt: &HostRuntime, made: Result<usize, Refusal>, out: &[u8]) -> io::Result
 
 // Converts the bytes of a file. The room is that of the longest record, which is longer than the
 // longest listing.
-// kept: a buffer of a fixed size: a converter is lent one, and it cannot fail.
+// kept: a buffer of a fixed size: a converter is lent one, and it cannot fail. It is compiled apart, so
+// that no room is on the stack where nothing is converted.
+#[inline(never)]
 fn convert(rt: &HostRuntime, t: Task, file: &[u8]) -> io::Result<()> {
     let mut out = [0u8; 28021];
     match t {
@@ -68,29 +73,46 @@ fn convert(rt: &HostRuntime, t: Task, file: &[u8]) -> io::Result<()> {
 // More than the longest record or listing has, so that a longer file is seen to be too long.
 const LIMIT: u64 = 65537;
 
-// The task of the file that the second argument names.
-fn run(rt: &HostRuntime, t: Task) -> io::Result<()> {
+// The first bytes of an input, as many as the limit.
+// kept: beside `read` and `read_named` of `ask`: a clause of each names its limit, which `files::read`
+// leaves to its caller.
+fn read<R: Read + Drop>(alloc: Global, input: R) -> io::Result<Vec<u8>>
+    ensures { IfOk result (λ file. IfSome (R.remaining input)
+        (λ bytes. file.items ≡ take 65537 bytes)) }
+{
+    files::read(alloc, input, LIMIT)
+}
+
+// The bytes of the file that has a name.
+fn read_named(rt: &HostRuntime, name: &[u8]) -> io::Result<Vec<u8>> {
+    read(rt.alloc(), File::open(rt, files::path(name)?)?)
+}
+
+// The bytes of the file that the second argument names; none where they could not be read, which is
+// said. Compiled apart, so that its buffer is not on the stack beside the room of `convert`.
+#[inline(never)]
+fn given(rt: &HostRuntime) -> io::Result<Option<Vec<u8>>> {
     // kept: a buffer of a fixed size: it holds the longest name there is, and it cannot fail.
     let mut path = [0u8; 4096];
     let Some(n) = files::told(rt, b"token", files::name(rt, 2, &mut path))? else {
-        return Ok(());
+        return Ok(None);
     };
-    let alloc = rt.alloc();
-    let file = match &path[..n] {
-        b"-" => files::told(rt, b"standard input", files::read(alloc, rt.stdin(), LIMIT))?,
-        name => {
-            let file = files::open(rt, name).and_then(|file| files::read(alloc, file, LIMIT));
-            files::told(rt, name, file)?
-        }
-    };
-    match file {
+    match &path[..n] {
+        b"-" => files::told(rt, b"standard input", read(rt.alloc(), rt.stdin())),
+        name => files::told(rt, name, read_named(rt, name)),
+    }
+}
+
+// The task of that file.
+fn run(rt: &HostRuntime, t: Task) -> io::Result<()> {
+    match given(rt)? {
         Some(bytes) => convert(rt, t, &bytes),
         None => Ok(()),
     }
 }
 
 fn main(rt: HostRuntime) -> io::Result<()> {
-    if !files::is_given(&rt, 2) || files::is_given(&rt, 3) {
+    if !files::is_given(rt.arg(2, &mut [])) || files::is_given(rt.arg(3, &mut [])) {
         return print_usage(&rt);
     }
     match wanted(&rt) {

@@ -59,7 +59,9 @@ fn is_told(text: &[u8], a: Answer) -> bool {
 }
 
 // Whether the question in hexadecimal digits has the answer that the text begins with. The buffer
-// has room for a file that is too long by one byte.
+// has room for a file that is too long by one byte. Compiled apart, so that the buffer is not on the
+// stack beside those of a conversion.
+#[inline(never)]
 pub(crate) fn agrees(hex: &[u8], text: &[u8]) -> bool {
     // kept: a buffer a byte longer than the longest file, so that a longer one is asked too.
     let mut file = [0u8; 65538];

@@ -56,7 +56,9 @@ impl Form {
     }
 }
 
-// Whether each of two forms in hexadecimal digits converts to the other.
+// Whether each of two forms in hexadecimal digits converts to the other. Compiled apart, as `refused`
+// is, so that their buffers are not on the stack together.
+#[inline(never)]
 pub(crate) fn both_ways(record_hex: &[u8], listing_hex: &[u8]) -> bool {
     let mut record = [0u8; 28022];
     let Some(n) = Form::Record.bytes(record_hex, &mut record) else {
@@ -72,6 +74,7 @@ pub(crate) fn both_ways(record_hex: &[u8], listing_hex: &[u8]) -> bool {
 
 // Whether a token of a form, in hexadecimal digits, is not converted to another, and refused with
 // the number that the line says.
+#[inline(never)]
 pub(crate) fn refused(form: Form, other: Form, hex: &[u8], line: &[u8]) -> bool {
     let mut bytes = [0u8; 28022];
     let Some(n) = form.bytes(hex, &mut bytes) else {

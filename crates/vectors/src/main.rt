@@ -64,8 +64,9 @@ fn report(rt: &impl Print, name: &str, text: &[u8]) -> Result<()> {
 
 // Reads a vector file and runs its cases.
 fn run(rt: &HostRuntime, name: &str) -> Result<()> {
-    let text = testkit::read(rt, name.as_bytes(), 524288)?;
-    report(rt, name, &text)
+    let mut text = vec![in rt.alloc(); 0u8; 524288]?;
+    let n = testkit::read(rt, name.as_bytes(), &mut text)?;
+    report(rt, name, &text[..n])
 }
 
 fn main(rt: HostRuntime) -> Result<()> {
